@@ -3,9 +3,9 @@ ghost use Rattle.faults.specs.Refusals.{jobRefusal};
 ghost use Rattle.faults.specs.declared.job.JobFault.the-variants.{File};
 ghost use mathlib.Core.Path.{_≡_};
 use crate::file::FileFault;
-use crate::layer::Layer;
 use crate::file::FileFaultDebug;
 use crate::file::FileFaultPartialEq;
+use crate::layer::Layer;
 
 #[derive(Clone, Copy, PartialEq, Eq, Debug)]
 pub enum JobFault {

@@ -1,0 +1,5 @@
+pub mod Bits
+pub mod Bytes
+mod Reached
+mod RowLists
+mod Widths

@@ -1,0 +1,5 @@
+pub mod Bits
+pub mod Bytes
+pub mod Orders
+pub mod Reach
+pub mod RowLists

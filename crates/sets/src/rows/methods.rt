@@ -1,0 +1,73 @@
+// Making rows, and what they reach.
+ghost use Rattle.sets.specs.Bits.{has};
+ghost use Rattle.sets.specs.Orders.{members};
+ghost use Rattle.sets.specs.Reach.{reach, Serves};
+ghost use Rattle.sets.specs.RowLists.{rowsOf};
+ghost use Prim.Native.Nat.{ℕ, _<_};
+ghost use Rattle.std.specs.Orderings.{Decides};
+ghost use lib.Dec.{ltb};
+ghost use lib.ListN.{length, getD};
+ghost use mathlib.Core.Bool.{cond, true};
+ghost use mathlib.Core.List.{[], _∷_, _++_};
+ghost use mathlib.Core.Path.{_≡_};
+use super::Rows;
+use crate::orders::OrderSet;
+use crate::sheets::SheetSet;
+
+const MOST: u8 = 16;
+
+impl Rows {
+    // The rows of a job with one sheet.
+    pub fn first(row: OrderSet) -> Rows
+        ensures value { λ r. ⌜ rowsOf r ≡ members row ∷ [] ⌝ }
+    {
+        let mut rows = [OrderSet::empty(); 16];
+        rows[0] = row;
+        Rows { count: 1, rows }
+    }
+
+    // One sheet more; false, and nothing changed, where there are 16 already.
+    pub fn add(&mut self, row: OrderSet) -> bool
+        ensures value { λ r. ⌜ r ≡ ltb (length (rowsOf (now (self .entry)))) 16 ⌝ }
+        ensures after { λ r. ⌜ rowsOf (now (self .exit)) ≡ cond r (rowsOf (now (self .entry)) ++ members row ∷ []) (rowsOf (now (self .entry))) ⌝ }
+    {
+        if self.count >= MOST {
+            return false;
+        }
+        self.rows[self.count as usize] = row;
+        self.count += 1;
+        true
+    }
+
+    // How many sheets there are.
+    pub fn count(&self) -> u8
+        ensures value { λ r. ⌜ r ≡ length (rowsOf (now (self .entry))) ⌝ }
+    {
+        self.count
+    }
+
+    // The row of a sheet; no orders where there is no such sheet.
+    pub fn row(&self, sheet: u8) -> OrderSet
+        ensures value { λ r. ⌜ members r ≡ getD (rowsOf (now (self .entry))) sheet 0 ⌝ }
+    {
+        if sheet < self.count {
+            self.rows[sheet as usize]
+        } else {
+            OrderSet::empty()
+        }
+    }
+
+    // The union of the rows of the sheets in the set; a sheet that the job lacks adds none.
+    pub fn reach(&self, set: SheetSet) -> OrderSet
+        ensures value { λ r. ⌜ members r ≡ reach (rowsOf (now (self .entry))) (set .bits) ⌝ }
+        ensures members { λ r. ⌜ ((j : ℕ) → Decides (has (members r) j) (Serves (rowsOf (now (self .entry))) (set .bits) j)) ⌝ }
+    {
+        let mut reached = OrderSet::empty();
+        for sheet in 0..self.count {
+            if set.has(sheet) {
+                reached = reached.union(self.rows[sheet as usize]);
+            }
+        }
+        reached
+    }
+}
