@@ -12,9 +12,9 @@ pub enum JobFault {
     // the bytes are no job file
     File(FileFault),
     // the sheet serves no order
-    EmptyRow { sheet: u8 },
+    EmptyRow { sheet: u16 },
     // the sheet serves an order that the job does not have
-    StrangeOrder { sheet: u8 },
+    StrangeOrder { sheet: u16 },
     // no sheet serves the order
     Unserved { order: u16 },
     // the order is due after the last step

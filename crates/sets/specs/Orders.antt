@@ -9,3 +9,7 @@ members s = s .bits
 -- an order below this can be in a set
 abbrev pub room : ℕ
 room = 64
+
+-- and its number has this many bytes
+abbrev pub roomBytes : ℕ
+roomBytes = 8

@@ -1,7 +1,7 @@
 // A set of orders, as rows are. What it means is the number `members`; its width is nobody else's business.
 ghost use Rattle.sets.specs.Bits.{has, withIn, AllBelow};
 ghost use Rattle.sets.specs.Bytes.{lowFirst};
-ghost use Rattle.sets.specs.Orders.{members, room};
+ghost use Rattle.sets.specs.Orders.{members, room, roomBytes};
 ghost use Prim.Native.Nat.{ℕ, _<_, _^_};
 ghost use Rattle.std.specs.Iters.{counting};
 ghost use Rattle.std.specs.Orderings.{Decides};
@@ -9,6 +9,7 @@ ghost use Rattle.std.specs.shelf.Lists.{countBy};
 ghost use lib.Bits.{bitAnd, bitOr};
 ghost use lib.Count.{ones};
 ghost use lib.Dec.{eqb, ltb};
+ghost use lib.ListN.{take};
 ghost use mathlib.Core.Bool.{_&&_, _||_};
 ghost use mathlib.Core.Path.{_≡_};
 
@@ -27,12 +28,16 @@ impl OrderSet {
         OrderSet { bits: 0 }
     }
 
-    // The set whose number has these bytes, the lowest first.
-    pub fn from_le_bytes(bytes: [u8; 8]) -> OrderSet
-        ensures value { λ r. ⌜ members r ≡ lowFirst bytes ⌝ }
+    // The set whose number has these bytes, the lowest first. Bytes for which there is no room are not read.
+    pub fn from_le_bytes(bytes: &[u8]) -> OrderSet
+        ensures value { λ r. ⌜ members r ≡ lowFirst (take roomBytes (now (bytes .entry))) ⌝ }
     {
+        let mut word = [0; 8];
+        for i in 0..bytes.len().min(8) {
+            word[i] = bytes[i];
+        }
         OrderSet {
-            bits: u64::from_le_bytes(bytes),
+            bits: u64::from_le_bytes(word),
         }
     }
 

@@ -1,0 +1,7 @@
+mod Accepted
+mod Conditions
+mod Counted
+pub mod Loops
+pub mod Readings
+mod Slices
+mod Verdicts

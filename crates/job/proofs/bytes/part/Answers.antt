@@ -1,0 +1,10 @@
+use Rattle.job.proofs.Slices.{part-is}
+use Rattle.job.proofs.bytes.part.Needs as need
+
+pub returns : need.returns
+returns c =
+    record {
+      value =
+          part-is (c .args .file .now) (c .args .at) (c .args .size) (c .min-from .result) (c .min .result) (c .min-from .ensures)
+          (c .min .ensures);
+    }
