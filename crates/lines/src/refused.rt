@@ -10,5 +10,8 @@ use std::alloc::AllocError;
 pub fn refused_line(text: Text, number: u8, place: usize) -> Result<Text, AllocError>
     ensures value { λ r. ⌜ made r (λ t. bytesOf t ≡ bytesOf text ++ refusedLine number place) ⌝ }
 {
-    text.begin(b"refused")?.number(usize::from(number))?.number(place)?.end()
+    text.begin(b"refused")?
+        .number(usize::from(number))?
+        .number(place)?
+        .end()
 }

@@ -9,6 +9,7 @@ use std::alloc::AllocError;
 use std::alloc::Global;
 
 const SPACE: u8 = 32;
+
 const NEWLINE: u8 = 10;
 
 #[derive(Drop)]
@@ -21,7 +22,10 @@ impl Text {
     pub fn new(heap: Global) -> Text
         ensures value { λ r. ⌜ bytesOf r ≡ [] ⌝ }
     {
-        Text { bytes: Vec::new(heap), heap }
+        Text {
+            bytes: Vec::new(heap),
+            heap,
+        }
     }
 
     // The first word of a line.
