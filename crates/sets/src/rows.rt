@@ -4,7 +4,8 @@ ghost use lib.ListN.{length};
 ghost use mathlib.Core.Path.{_≡_};
 use crate::orders::OrderSet;
 
-mod methods;
+mod making;
+mod reading;
 
 #[derive(Clone, Copy)]
 pub struct Rows {

@@ -40,12 +40,11 @@ impl SheetSet {
         ensures value { λ r. ⌜ r .bits ≡ without (self .bits) sheet ⌝ }
         ensures members { λ r. ⌜ ((p : ℕ) → has (r .bits) p ≡ (has (self .bits) p && not (eqb p sheet))) ⌝ }
     {
-        let bits = self.bits;
         if !self.has(sheet) {
             return self;
         }
         SheetSet {
-            bits: bits - (1 << sheet),
+            bits: self.bits - (1 << sheet),
         }
     }
 
