@@ -1,16 +1,14 @@
 -- Laws of the bits of a number, each proved once by halving.
-use Prim.Native.Nat.{ℕ, zero, suc, _+_, _-_, _*_, _/_, _%_, _^_, _≤_, _<_}
+use Prim.Native.Nat.{ℕ, zero, suc, _+_, _-_, _/_, _%_, _^_, _≤_, _<_}
 use mathlib.Core.Path.{_≡_, refl, sym, ap, fun-ext, _∙_}
 use mathlib.Core.Bool.{Bool, true, false, cond, not, _&&_, _||_}
-use mathlib.Core.Logic.{_⊎_, inl, inr, ⊎-elim}
-use mathlib.Core.List.{List, [], _∷_}
+use mathlib.Core.Logic.{⊎-elim}
 use native.Mathlib.Nat.{pow-succ', div-div-eq-div-mul, div-one}
 use native.Mathlib.Omega.{arith}
-use borrow.Author.Needs.{needs}
 use lib.Bits.{bitAnd, bitOr, and-le-l, and-shr, or-shr, and-mod, or-mod}
 use lib.Count.{ones, ones-step, ones-ones}
 use lib.Dec.{eqb, ltb}
-use Rattle.std.proofs.shelf.Bits.{shr-shr, pow-pos}
+use Rattle.std.proofs.shelf.Bits.{shr-shr}
 use Rattle.std.proofs.shelf.Sums.{sumBy-cons}
 use Rattle.std.proofs.shelf.Tests.{eq-eqb, ne-eqb, eqb-true, eqb-false, cases-bool, cases-eq, lt-ltb, ltb-true, cond-true, cond-false, or-left, or-right, or-from, and-right, not-from-true, not-from-false}
 use Rattle.std.specs.Orderings.{Decides}
@@ -27,10 +25,6 @@ pub bit-is : (S p : ℕ) → S / 2 ^ p % 2 ≡ bit S p
 bit-is S zero = ap (λ n. n % 2) (div-one S)
 bit-is S (suc p) =
     ap (λ n. n % 2) (ap (λ n. S / n) (pow-succ' 2 p) ∙ sym (div-div-eq-div-mul S 2 (2 ^ p))) ∙ bit-is (S / 2) p
-
-pub bit-below : (S p : ℕ) → bit S p < 2
-bit-below S zero = omega arith
-bit-below S (suc p) = bit-below (S / 2) p
 
 pub bit-high : (S p k : ℕ) → S < 2 ^ k → k ≤ p → bit S p ≡ 0
 bit-high S zero zero small h = omega arith
