@@ -1,4 +1,4 @@
-// A set of orders, as rows are. What it means is the number `members`; its width is nobody else's business.
+// A set of orders, as rows are. Contracts speak of its number, `members`, and of its `room`, and of no field.
 ghost use Rattle.sets.specs.Bits.{has, withIn, AllBelow};
 ghost use Rattle.sets.specs.Bytes.{lowFirst};
 ghost use Rattle.sets.specs.Orders.{members, room};
@@ -72,6 +72,7 @@ impl OrderSet {
         (self.bits & other.bits).count_ones() as u16
     }
 
+    // Whether no order is in the set; to the contract, whether all of them are below 0.
     pub fn is_empty(self) -> bool
         ensures value { λ r. ⌜ r ≡ eqb (members self) 0 ⌝ }
         ensures members { λ r. ⌜ Decides r (AllBelow (members self) 0) ⌝ }

@@ -10,6 +10,7 @@ mod reading;
 #[derive(Clone, Copy)]
 pub struct Rows {
     count: u8,
+    // those from `count` on are not in use
     rows: [OrderSet; 16],
     ghost some: { 1 ≤ count },
     ghost few: { count ≤ 16 },

@@ -9,6 +9,7 @@ ghost use lib.Dec.{eqb, ltb};
 ghost use mathlib.Core.Bool.{_&&_, _||_, not};
 ghost use mathlib.Core.Path.{_≡_};
 
+// How many sheets a set has room for.
 const ROOM: u8 = 32;
 
 #[derive(Clone, Copy, PartialEq, Eq, Debug)]

@@ -9,6 +9,7 @@ ghost use mathlib.Core.Path.{_≡_};
 use super::Rows;
 use crate::orders::OrderSet;
 
+// How many sheets a job has at most.
 const MOST: u8 = 16;
 
 impl Rows {

@@ -3,7 +3,7 @@ ghost use Rattle.sets.specs.Bits.{has};
 ghost use Rattle.sets.specs.Orders.{members};
 ghost use Rattle.sets.specs.Reach.{reach, Serves};
 ghost use Rattle.sets.specs.RowLists.{rowsOf};
-ghost use Prim.Native.Nat.{ℕ};
+ghost use Prim.Native.Nat.{ℕ, _≤_};
 ghost use Rattle.std.specs.Orderings.{Decides};
 ghost use lib.ListN.{length, getD};
 ghost use mathlib.Core.Path.{_≡_};
@@ -12,9 +12,11 @@ use crate::orders::OrderSet;
 use crate::sheets::SheetSet;
 
 impl Rows {
-    // How many sheets there are.
+    // How many sheets there are: at least one, and at most 16.
     pub fn count(&self) -> u8
         ensures value { λ r. ⌜ r ≡ length (rowsOf (now (self .entry))) ⌝ }
+        ensures some { λ r. ⌜ 1 ≤ r ⌝ }
+        ensures few { λ r. ⌜ r ≤ 16 ⌝ }
     {
         self.count
     }
