@@ -28,10 +28,10 @@ pub enum JobFault {
 }
 
 pub impl From<FileFault> for JobFault as FileInJob {
-    ghost converts = { λ fault r. r ≡ File fault };
+    ghost converts = { λ cause r. r ≡ File cause };
 
-    fn from(fault: FileFault) -> JobFault {
-        JobFault::File(fault)
+    fn from(cause: FileFault) -> JobFault {
+        JobFault::File(cause)
     }
 }
 

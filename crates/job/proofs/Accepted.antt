@@ -23,7 +23,7 @@ use Rattle.job.specs.Edition.{headerBytes, rowBytes, recordBytes, mostSheets, 
 use Rattle.job.specs.Fields.{edition, sheets, orders, rowsAt, recordsAt, statedLength, row, dueStep, label, labelAt, labelBytes}
 use Rattle.job.specs.Tests.{all, between, inside, labelFits, printable, served}
 use Rattle.job.specs.Verdict.{checks, fileChecks, inFile, orderChecks, sheetChecks}
-use Rattle.job.specs.WellFormed.{Due, Inside, Label, Layout, Served, Sound, WellFormed}
+use Rattle.job.specs.WellFormed.{Busy, Due, Inside, Label, Layout, Served, Sound, WellFormed}
 use Rattle.job.proofs.Conditions.{any-decides, between-decides, busy-decides, distinct-decides, due-decides, inside-decides, printed-decides}
 use Rattle.job.proofs.Counted.{all-counted, each-counted}
 use Rattle.job.proofs.Verdicts.{Holds, all-split, each-turn, holds-verdict, turn-each, verdict-holds}
@@ -132,7 +132,7 @@ module _ (file : List ℕ) where
           few-sheets = omega (arith, rows-length, n .1);
           some-order = omega (arith, labels-length, m .0);
           few-orders = omega (arith, labels-length, m .1);
-          busy = all-counted (λ r. AllBelow r 0 → ⊥) (row file) (sheets file) (λ k h. busy-decides (row file k) .0 (of-sheet k h .0));
+          busy = all-counted Busy (row file) (sheets file) (λ k h. busy-decides (row file k) .0 (of-sheet k h .0));
           known =
               subst (λ bound. All (λ r. AllBelow r bound) (content file .rows)) (sym labels-length)
               (all-counted (λ r. AllBelow r (orders file)) (row file) (sheets file)
@@ -154,7 +154,7 @@ module _ (file : List ℕ) where
   module _ (w : WellFormed file) where
     back-sheet : (k : ℕ) → k < sheets file → All Holds (sheetChecks file k)
     back-sheet k h = (
-      busy-decides (row file k) .1 (each-counted (λ r. AllBelow r 0 → ⊥) (row file) (sheets file) (w .sound .busy) k h),
+      busy-decides (row file k) .1 (each-counted Busy (row file) (sheets file) (w .sound .busy) k h),
       (
         below-decides (row file k) (orders file) .1
             (each-counted (λ r. AllBelow r (orders file)) (row file) (sheets file)

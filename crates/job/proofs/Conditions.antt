@@ -13,13 +13,13 @@ use Rattle.std.specs.Orderings.{Decides}
 use Rattle.std.specs.declared.option.Option.the-variants.{Some, None}
 use Rattle.std.specs.shelf.Lists.{All}
 use Rattle.std.specs.shelf.Text.{sameBytes}
-use Rattle.sets.specs.Bits.{has, AllBelow}
-use Rattle.sets.proofs.Bits.{empty-decides}
+use Rattle.sets.specs.Bits.{has}
+use Rattle.sets.proofs.Bits.{below-pow, empty-decides, has-on, member-from}
 use Rattle.job.specs.Content.{due}
 use Rattle.job.specs.Edition.{headerBytes}
 use Rattle.job.specs.Fields.{dueStep, label}
 use Rattle.job.specs.Tests.{all, anyBelow, between, inside, printable, taken}
-use Rattle.job.specs.WellFormed.{Due, Inside}
+use Rattle.job.specs.WellFormed.{Busy, Due, Inside}
 use Rattle.job.proofs.Loops.{any-found}
 
 pub between-decides : (low high n : ℕ) → Decides (between low high n) ((low ≤ n) × (n ≤ high))
@@ -39,13 +39,16 @@ inside-decides file at size = (
 )
 
 -- a row that is not 0 has an order
-pub busy-decides : (row : ℕ) → Decides (not (eqb row 0)) (AllBelow row 0 → ⊥)
+pub busy-decides : (row : ℕ) → Decides (not (eqb row 0)) (Busy row)
 busy-decides row = (
-  (λ e none. both-ways (eqb row 0) (not-true (eqb row 0) e) (empty-decides row .1 none)),
-  (λ some.
+  (λ e.
+      let some : 0 < row = omega (arith, eqb-false row 0 (not-true (eqb row 0) e)) in
+      let p = member-from row row (below-pow row) some in
+      record { order = p .0; serves = has-on row (p .0) (p .1) }),
+  (λ b.
       ⊎-elim
-      (λ e. absurd (some (empty-decides row .0 e)))
-      (λ e. not-from-false (eqb row 0) e)
+      (λ e. absurd (both-ways (has row (b .order)) (empty-decides row .0 e (b .order)) (b .serves)))
+      (not-from-false (eqb row 0))
       (cases-bool (eqb row 0))),
 )
 

@@ -26,6 +26,11 @@ pub record Layout (file : List ℕ) : Type 0 where
   pub records-inside : Inside file (recordsAt file) (recordBytes * orders file)
   pub labels-inside : (order : ℕ) → order < orders file → Inside file (labelAt file order) (labelBytes file order)
 
+-- the sheet serves some order
+pub record Busy (row : ℕ) : Type 0 where
+  pub order : ℕ
+  pub serves : has row order ≡ true
+
 -- some sheet's row has the order
 pub record Served (rows : List ℕ) (order : ℕ) : Type 0 where
   pub sheet : ℕ
@@ -48,7 +53,7 @@ pub record Sound (c : Content) : Type 0 where
   pub few-sheets : length (c .rows) ≤ mostSheets
   pub some-order : 1 ≤ length (c .labels)
   pub few-orders : length (c .labels) ≤ mostOrders
-  pub busy : All (λ row. AllBelow row 0 → ⊥) (c .rows)
+  pub busy : All Busy (c .rows)
   pub known : All (λ row. AllBelow row (length (c .labels))) (c .rows)
   pub served : (order : ℕ) → order < length (c .labels) → Served (c .rows) order
   pub in-time : All (Due (length (c .rows))) (c .dues)

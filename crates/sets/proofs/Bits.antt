@@ -1,22 +1,20 @@
 -- Laws of the bits of a number, each proved once by halving.
-use Prim.Native.Nat.{ℕ, zero, suc, _+_, _-_, _*_, _/_, _%_, _^_, _≤_, _<_}
+use Prim.Native.Nat.{ℕ, zero, suc, _+_, _-_, _/_, _%_, _^_, _≤_, _<_}
 use mathlib.Core.Path.{_≡_, refl, sym, ap, fun-ext, _∙_}
 use mathlib.Core.Bool.{Bool, true, false, cond, not, _&&_, _||_}
-use mathlib.Core.Logic.{_⊎_, inl, inr, ⊎-elim}
-use mathlib.Core.List.{List, [], _∷_}
+use mathlib.Core.Logic.{⊎-elim}
 use native.Mathlib.Nat.{pow-succ', div-div-eq-div-mul, div-one}
 use native.Mathlib.Omega.{arith}
-use borrow.Author.Needs.{needs}
 use lib.Bits.{bitAnd, bitOr, and-le-l, and-shr, or-shr, and-mod, or-mod}
 use lib.Count.{ones, ones-step, ones-ones}
 use lib.Dec.{eqb, ltb}
-use Rattle.std.proofs.shelf.Bits.{shr-shr, pow-pos}
+use Rattle.std.proofs.shelf.Bits.{shr-shr}
 use Rattle.std.proofs.shelf.Sums.{sumBy-cons}
 use Rattle.std.proofs.shelf.Tests.{eq-eqb, ne-eqb, eqb-true, eqb-false, cases-bool, cases-eq, lt-ltb, ltb-true, cond-true, cond-false, or-left, or-right, or-from, and-right, not-from-true, not-from-false}
 use Rattle.std.specs.Orderings.{Decides}
 use Rattle.std.specs.Iters.{counting}
 use Rattle.std.specs.shelf.Lists.{countBy}
-use Rattle.sets.specs.Bits.{has, with, without, AllBelow}
+use Rattle.sets.specs.Bits.{has, with, without, AllBelow, Empty}
 
 -- bit p by halving p times
 abbrev pub bit : ℕ → ℕ → ℕ
@@ -27,10 +25,6 @@ pub bit-is : (S p : ℕ) → S / 2 ^ p % 2 ≡ bit S p
 bit-is S zero = ap (λ n. n % 2) (div-one S)
 bit-is S (suc p) =
     ap (λ n. n % 2) (ap (λ n. S / n) (pow-succ' 2 p) ∙ sym (div-div-eq-div-mul S 2 (2 ^ p))) ∙ bit-is (S / 2) p
-
-pub bit-below : (S p : ℕ) → bit S p < 2
-bit-below S zero = omega arith
-bit-below S (suc p) = bit-below (S / 2) p
 
 pub bit-high : (S p k : ℕ) → S < 2 ^ k → k ≤ p → bit S p ≡ 0
 bit-high S zero zero small h = omega arith
@@ -224,11 +218,20 @@ below-decides S k = (
   (λ off. lt-ltb S (2 ^ k) (below-from-bits S k (λ p h. off-from-has S p (off p h)))),
 )
 
-pub empty-decides : (S : ℕ) → Decides (eqb S 0) (AllBelow S 0)
+pub empty-decides : (S : ℕ) → Decides (eqb S 0) (Empty S)
 empty-decides S = (
-  (λ e p h. ap (λ n. has n p) (eqb-true S 0 e) ∙ has-high 0 p 0 (omega arith) h),
-  (λ off. eq-eqb S 0 (zero-from-bits S S (below-pow S) (λ p. off-from-has S p (off p (omega arith))))),
+  (λ e p. ap (λ n. has n p) (eqb-true S 0 e) ∙ has-high 0 p 0 (omega arith) (omega arith)),
+  (λ off. eq-eqb S 0 (zero-from-bits S S (below-pow S) (λ p. off-from-has S p (off p)))),
 )
+
+-- a number that is not 0 has a bit
+pub member-from : (k S : ℕ) → S < 2 ^ k → 0 < S → (p : ℕ) × (bit S p ≡ 1)
+member-from zero S small some = absurd (omega arith)
+member-from (suc k) S small some =
+    ⊎-elim
+    (λ (odd : S % 2 ≡ 1). (0, odd))
+    (λ even. let p = member-from k (S / 2) (omega (arith, pow-succ' 2 k)) (omega arith) in (suc (p .0), p .1))
+    (cases-eq (S % 2) 1)
 
 -- how many members two sets share, counted one by one
 pub common-counted : (a b m : ℕ) → a < 2 ^ m → ones (bitAnd a b) ≡ countBy (λ j. has a j && has b j) (counting 0 m)

@@ -1,59 +1,49 @@
 -- An order is in the reach of a set exactly when some sheet of the set serves it.
-use Prim.Native.Nat.{ℕ, zero, suc, _+_, _≤_, _<_}
-use mathlib.Core.Path.{_≡_, refl, sym, ap, subst, _∙_}
-use mathlib.Core.Bool.{Bool, true, false, cond, _&&_, _||_}
+use Prim.Native.Nat.{ℕ, suc, _+_, _<_}
+use mathlib.Core.Path.{_≡_, refl, sym, ap, _∙_}
+use mathlib.Core.Bool.{Bool, true, false, cond, _&&_, _||_, or-comm}
 use mathlib.Core.List.{List}
-use mathlib.Core.Logic.{inl, inr, ⊎-elim}
 use native.Mathlib.Omega.{arith}
 use native.Mathlib.Numerals.{add-one}
 use lib.Bits.{bitOr, or-zero-r}
 use lib.ListN.{length, getD}
-use Rattle.std.proofs.shelf.Tests.{cases-bool, cases-eq, both-ways, cond-true, cond-false, or-cases, or-left, or-right}
+use Rattle.std.proofs.shelf.Tests.{cond-true, cond-false}
+use Rattle.std.proofs.shelf.Ways.{decides-and, decides-below-or}
 use Rattle.std.specs.Orderings.{Decides}
 use Rattle.sets.specs.Bits.{has}
 use Rattle.sets.specs.Reach.{reach, reachBelow, Serves}
 use Rattle.sets.proofs.Bits.{has-high, has-or}
 
+-- what a row adds, where its sheet is in the set or not
+has-added : (b : Bool) (row j : ℕ) → has (cond b row 0) j ≡ (b && has row j)
+has-added true row j = refl
+has-added false row j = has-high 0 j 0 (omega arith) (omega arith)
+
 module _ (rows : List ℕ) (S j : ℕ) where
-  step : (k : ℕ) → has (reachBelow rows S (suc k)) j ≡ (has (reachBelow rows S k) j || has (cond (has S k) (getD rows k 0) 0) j)
-  step k = has-or (reachBelow rows S k) (cond (has S k) (getD rows k 0) 0) j
+  abbrev serving : ℕ → Bool
+  serving k = has S k && has (getD rows k 0) j
 
-  -- what the row of sheet k adds
-  added : (k : ℕ) → has (cond (has S k) (getD rows k 0) 0) j ≡ true → (has S k ≡ true) × (has (getD rows k 0) j ≡ true)
-  added k e =
-      ⊎-elim
-      (λ on. (on, (sym (ap (λ n. has n j) (cond-true (has S k) (getD rows k 0) 0 on)) ∙ e)))
-      (λ off.
-      absurd
-      (both-ways (has 0 j) (has-high 0 j 0 (omega arith) (omega arith))
-      (sym (ap (λ n. has n j) (cond-false (has S k) (getD rows k 0) 0 off)) ∙ e)))
-      (cases-bool (has S k))
+  abbrev Serving : ℕ → Type 0
+  Serving k = (has S k ≡ true) × (has (getD rows k 0) j ≡ true)
 
-  server : (k : ℕ) → k ≤ length rows → has (reachBelow rows S k) j ≡ true → Serves rows S j
-  server zero h e = absurd (both-ways (has 0 j) (has-high 0 j 0 (omega arith) (omega arith)) e)
-  server (suc k) h e =
-      ⊎-elim
-      (server k (omega arith))
-      (λ here.
-      record { sheet = k; listed = omega arith; chosen = added k here .0; serves = added k here .1 })
-      (or-cases (has (reachBelow rows S k) j) (has (cond (has S k) (getD rows k 0) 0) j) (sym (step k) ∙ e))
+  step : (k : ℕ) → has (reachBelow rows S (suc k)) j ≡ (serving k || has (reachBelow rows S k) j)
+  step k =
+      has-or (reachBelow rows S k) (cond (has S k) (getD rows k 0) 0) j
+      ∙ (or-comm (has (reachBelow rows S k) j) (has (cond (has S k) (getD rows k 0) 0) j)
+      ∙ ap (λ b. b || has (reachBelow rows S k) j) (has-added (has S k) (getD rows k 0) j))
 
-  served : (k p : ℕ) → p < k → has S p ≡ true → has (getD rows p 0) j ≡ true → has (reachBelow rows S k) j ≡ true
-  served zero p h on e = absurd (omega arith)
-  served (suc k) p h on e =
-      step k
-      ∙ ⊎-elim
-      (λ (same : p ≡ k).
-      or-right (has (reachBelow rows S k) j) (has (cond (has S k) (getD rows k 0) 0) j)
-      (ap (λ n. has n j) (cond-true (has S k) (getD rows k 0) 0 (sym (ap (has S) same) ∙ on))
-      ∙ (sym (ap (λ q. has (getD rows q 0) j) same) ∙ e)))
-      (λ ne. or-left (has (reachBelow rows S k) j) (has (cond (has S k) (getD rows k 0) 0) j) (served k p (omega arith) on e))
-      (cases-eq p k)
+  below : (k : ℕ) → Decides (has (reachBelow rows S k) j) ((p : ℕ) × (p < k) × Serving p)
+  below =
+      decides-below-or serving Serving (λ k. has (reachBelow rows S k) j)
+      (λ k. decides-and (has S k) (has (getD rows k 0) j) ((λ e. e), (λ e. e)) ((λ e. e), (λ e. e)))
+      (has-high 0 j 0 (omega arith) (omega arith)) step
 
   pub reach-serves : Decides (has (reach rows S) j) (Serves rows S j)
   reach-serves = (
-    server (length rows) (omega arith),
-    (λ s. served (length rows) (s .sheet) (s .listed) (s .chosen) (s .serves)),
+    (λ e.
+        let s = below (length rows) .0 e in
+        record { sheet = s .0; listed = s .1; chosen = s .2 .0; serves = s .2 .1 }),
+    (λ s. below (length rows) .1 (s .sheet, s .listed, (s .chosen, s .serves))),
   )
 
 -- one sheet more in the loop: its row is taken in, or passed over

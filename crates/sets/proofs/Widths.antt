@@ -1,16 +1,15 @@
 -- What the operations on machine words come to, at any width w.
 use Prim.Native.Nat.{ℕ, _+_, _-_, _*_, _/_, _%_, _^_, _≤_, _<_}
-use mathlib.Core.Path.{_≡_, sym, ap, subst, _∙_}
-use mathlib.Core.Bool.{Bool, true, false, _&&_, _||_}
-use mathlib.Core.Logic.{inl, inr, ⊎-elim}
+use mathlib.Core.Path.{_≡_, sym, ap, _∙_}
+use mathlib.Core.Bool.{true, false, _&&_, _||_}
+use mathlib.Core.Logic.{⊎-elim}
 use native.Mathlib.Omega.{arith}
 use lib.Dec.{eqb, leb, ltb}
 use Rattle.std.proofs.shelf.Bits.{div-below, le-div, one-shl, pow-pos}
 use Rattle.std.proofs.shelf.Tests.{cases-bool, cases-lt, both-ways, cond-true, cond-false, and-right, eq-eqb, ne-eqb, le-leb, le-ltb, lt-ltb}
-use Rattle.std.specs.Orderings.{Decides}
 use lib.Pow.{pow-mono}
-use Rattle.sets.specs.Bits.{has, with, withIn, without, AllBelow}
-use Rattle.sets.proofs.Bits.{and-on, or-off, below-decides, bit-le, has-high, has-with, on-from-has, with-below}
+use Rattle.sets.specs.Bits.{has, with, withIn, without}
+use Rattle.sets.proofs.Bits.{and-on, or-off, bit-le, has-high, has-with, on-from-has, with-below}
 
 pub has-past : (w S p : ℕ) → S < 2 ^ w → w ≤ p → ltb p w ≡ has S p
 has-past w S p small past = le-ltb p w past ∙ sym (has-high S p w small past)
@@ -61,6 +60,3 @@ shifted-out S k =
 pub wide-bound : (w S k : ℕ) → S < 2 ^ w → w ≤ k → leb w k ≡ ltb S (2 ^ k)
 wide-bound w S k small h =
     let wider : 2 ^ w ≤ 2 ^ k = pow-mono h in le-leb w k h ∙ sym (lt-ltb S (2 ^ k) (omega arith))
-
-pub below-test : (S k : ℕ) (r : Bool) → r ≡ ltb S (2 ^ k) → Decides r (AllBelow S k)
-below-test S k r e = subst (λ b. Decides b (AllBelow S k)) (sym e) (below-decides S k)

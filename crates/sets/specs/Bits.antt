@@ -23,3 +23,7 @@ without S p = cond (has S p) (S - 2 ^ p) S
 -- every member of S is below the bound
 abbrev pub AllBelow : ℕ → ℕ → Type 0
 AllBelow S bound = (p : ℕ) → bound ≤ p → has S p ≡ false
+
+-- S has no member
+abbrev pub Empty : ℕ → Type 0
+Empty S = (p : ℕ) → has S p ≡ false

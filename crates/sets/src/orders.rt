@@ -1,5 +1,5 @@
-// A set of orders, as rows are. What it means is the number `members`; its width is nobody else's business.
-ghost use Rattle.sets.specs.Bits.{has, withIn, AllBelow};
+// A set of orders, as rows are. Contracts speak of its number, `members`, and of its `room`, and of no field.
+ghost use Rattle.sets.specs.Bits.{has, withIn, AllBelow, Empty};
 ghost use Rattle.sets.specs.Bytes.{lowFirst};
 ghost use Rattle.sets.specs.Orders.{members, room, roomBytes};
 ghost use Prim.Native.Nat.{ℕ, _<_, _^_};
@@ -77,9 +77,10 @@ impl OrderSet {
         (self.bits & other.bits).count_ones() as u16
     }
 
+    // Whether no order is in the set; to the contract, whether all of them are below 0.
     pub fn is_empty(self) -> bool
         ensures value { λ r. ⌜ r ≡ eqb (members self) 0 ⌝ }
-        ensures members { λ r. ⌜ Decides r (AllBelow (members self) 0) ⌝ }
+        ensures members { λ r. ⌜ Decides r (Empty (members self)) ⌝ }
     {
         self.bits == 0
     }

@@ -4,11 +4,13 @@ ghost use lib.ListN.{length};
 ghost use mathlib.Core.Path.{_≡_};
 use crate::orders::OrderSet;
 
-mod methods;
+mod making;
+mod reading;
 
 #[derive(Clone, Copy)]
 pub struct Rows {
     count: u8,
+    // those from `count` on are not in use
     rows: [OrderSet; 16],
     ghost some: { 1 ≤ count },
     ghost few: { count ≤ 16 },

@@ -9,6 +9,7 @@ ghost use lib.Dec.{eqb, ltb};
 ghost use mathlib.Core.Bool.{_&&_, _||_, not};
 ghost use mathlib.Core.Path.{_≡_};
 
+// How many sheets a set has room for.
 const ROOM: u8 = 32;
 
 #[derive(Clone, Copy, PartialEq, Eq, Debug)]
@@ -40,12 +41,11 @@ impl SheetSet {
         ensures value { λ r. ⌜ r .bits ≡ without (self .bits) sheet ⌝ }
         ensures members { λ r. ⌜ ((p : ℕ) → has (r .bits) p ≡ (has (self .bits) p && not (eqb p sheet))) ⌝ }
     {
-        let bits = self.bits;
         if !self.has(sheet) {
             return self;
         }
         SheetSet {
-            bits: bits - (1 << sheet),
+            bits: self.bits - (1 << sheet),
         }
     }
 

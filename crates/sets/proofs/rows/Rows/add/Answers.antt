@@ -1,8 +1,6 @@
-use Prim.Native.Nat.{_≤_}
 use mathlib.Core.Path.{sym, refl, ap, _∙_}
 use native.Mathlib.Omega.{arith}
 use lib.Dec.{ltb}
-use lib.ListN.{length}
 use Rattle.std.proofs.shelf.Tests.{le-ltb, lt-ltb}
 use Rattle.sets.proofs.RowLists.{rows-length, rows-push}
 use Rattle.sets.proofs.rows.Rows.add.Needs as need

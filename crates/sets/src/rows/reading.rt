@@ -1,47 +1,22 @@
-// Making rows, and what they reach.
+// What the rows of a job say: how many sheets there are, the row of each, and the reach of a set.
 ghost use Rattle.sets.specs.Bits.{has};
 ghost use Rattle.sets.specs.Orders.{members};
 ghost use Rattle.sets.specs.Reach.{reach, Serves};
 ghost use Rattle.sets.specs.RowLists.{rowsOf};
-ghost use Prim.Native.Nat.{ℕ, _<_};
+ghost use Prim.Native.Nat.{ℕ, _≤_};
 ghost use Rattle.std.specs.Orderings.{Decides};
-ghost use lib.Dec.{ltb};
 ghost use lib.ListN.{length, getD};
-ghost use mathlib.Core.Bool.{cond, true};
-ghost use mathlib.Core.List.{[], _∷_, _++_};
 ghost use mathlib.Core.Path.{_≡_};
 use super::Rows;
 use crate::orders::OrderSet;
 use crate::sheets::SheetSet;
 
-const MOST: u8 = 16;
-
 impl Rows {
-    // The rows of a job with one sheet.
-    pub fn first(row: OrderSet) -> Rows
-        ensures value { λ r. ⌜ rowsOf r ≡ members row ∷ [] ⌝ }
-    {
-        let mut rows = [OrderSet::empty(); 16];
-        rows[0] = row;
-        Rows { count: 1, rows }
-    }
-
-    // One sheet more; false, and nothing changed, where there are 16 already.
-    pub fn add(&mut self, row: OrderSet) -> bool
-        ensures value { λ r. ⌜ r ≡ ltb (length (rowsOf (now (self .entry)))) 16 ⌝ }
-        ensures after { λ r. ⌜ rowsOf (now (self .exit)) ≡ cond r (rowsOf (now (self .entry)) ++ members row ∷ []) (rowsOf (now (self .entry))) ⌝ }
-    {
-        if self.count >= MOST {
-            return false;
-        }
-        self.rows[self.count as usize] = row;
-        self.count += 1;
-        true
-    }
-
-    // How many sheets there are.
+    // How many sheets there are: at least one, and at most 16.
     pub fn count(&self) -> u8
         ensures value { λ r. ⌜ r ≡ length (rowsOf (now (self .entry))) ⌝ }
+        ensures some { λ r. ⌜ 1 ≤ r ⌝ }
+        ensures few { λ r. ⌜ r ≤ 16 ⌝ }
     {
         self.count
     }
