@@ -17,12 +17,12 @@ use Rattle.std.specs.declared.result.Result.the-variants.{Ok, Err}
 use Rattle.std.specs.shelf.Lists.{All}
 use Rattle.sets.specs.Bits.{has, AllBelow}
 use Rattle.sets.proofs.Bits.{below-decides}
-use Rattle.job.specs.Check.{inTurn, verdict}
+use Rattle.jobfile.specs.Check.{inTurn, verdict}
 use Rattle.job.specs.Content.{content, due}
-use Rattle.job.specs.Edition.{headerBytes, rowBytes, recordBytes, mostSheets, mostOrders, mostLabelBytes}
-use Rattle.job.specs.Fields.{edition, sheets, orders, rowsAt, recordsAt, statedLength, row, dueStep, label, labelAt, labelBytes}
-use Rattle.job.specs.Tests.{all, between, inside, labelFits, printable, served}
-use Rattle.job.specs.Verdict.{checks, fileChecks, inFile, orderChecks, sheetChecks}
+use Rattle.jobfile.specs.Edition.{headerBytes, rowBytes, recordBytes, mostSheets, mostOrders, mostLabelBytes}
+use Rattle.jobfile.specs.Fields.{edition, sheets, orders, rowsAt, recordsAt, statedLength, row, dueStep, label, labelAt, labelBytes}
+use Rattle.jobfile.specs.Tests.{all, between, inside, labelFits, printable, served}
+use Rattle.jobfile.specs.Checks.{checks, fileChecks, inFile, orderChecks, sheetChecks}
 use Rattle.job.specs.WellFormed.{Busy, Due, Inside, Label, Layout, Served, Sound, WellFormed}
 use Rattle.job.proofs.Conditions.{any-decides, between-decides, busy-decides, distinct-decides, due-decides, inside-decides, printed-decides}
 use Rattle.job.proofs.Counted.{all-counted, each-counted}

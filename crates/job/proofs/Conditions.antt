@@ -16,11 +16,11 @@ use Rattle.std.specs.shelf.Text.{sameBytes}
 use Rattle.sets.specs.Bits.{has}
 use Rattle.sets.proofs.Bits.{below-pow, empty-decides, has-on, member-from}
 use Rattle.job.specs.Content.{due}
-use Rattle.job.specs.Edition.{headerBytes}
-use Rattle.job.specs.Fields.{dueStep, label}
-use Rattle.job.specs.Tests.{all, anyBelow, between, inside, printable, taken}
+use Rattle.jobfile.specs.Edition.{headerBytes}
+use Rattle.jobfile.specs.Fields.{dueStep, label}
+use Rattle.jobfile.specs.Tests.{all, anyBelow, between, inside, printable, taken}
 use Rattle.job.specs.WellFormed.{Busy, Due, Inside}
-use Rattle.job.proofs.Loops.{any-found}
+use Rattle.jobfile.proofs.Loops.{any-found}
 
 pub between-decides : (low high n : ℕ) → Decides (between low high n) ((low ≤ n) × (n ≤ high))
 between-decides low high n = (

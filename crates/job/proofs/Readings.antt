@@ -11,10 +11,11 @@ use Rattle.std.specs.declared.result.Result.the-variants.{Ok, Err}
 use Rattle.faults.specs.declared.job.JobFault.{JobFault}
 use Rattle.std.specs.Vec.{made, refused}
 use Rattle.job.specs.declared.job.Job.{Job}
-use Rattle.job.specs.Check.{FirstFault, verdict}
+use Rattle.jobfile.specs.Check.{FirstFault, verdict}
 use Rattle.job.specs.Content.{Content, content}
 use Rattle.job.specs.Jobs.{contentOf, fileOf, outcome}
-use Rattle.job.specs.Verdict.{accepts, checks, reading}
+use Rattle.jobfile.specs.Checks.{accepts, checks}
+use Rattle.job.specs.Reading.{reading}
 use Rattle.job.specs.WellFormed.{Sound, WellFormed}
 use Rattle.job.proofs.Accepted.{passes, well-formed}
 use Rattle.job.proofs.Verdicts.{first-fault}

@@ -11,8 +11,8 @@ use Rattle.std.proofs.shelf.Tests.{cases-bool, cond-true, cond-false}
 use Rattle.std.specs.declared.result.Result.{Result}
 use Rattle.std.specs.declared.result.Result.the-variants.{Ok, Err}
 use Rattle.std.specs.shelf.Lists.{All}
-use Rattle.job.specs.Check.{Check, check, inTurn, verdict, FirstFault}
-use Rattle.job.proofs.Loops.{not-passed}
+use Rattle.jobfile.specs.Check.{Check, check, inTurn, verdict, FirstFault}
+use Rattle.jobfile.proofs.Loops.{not-passed}
 
 abbrev pub Holds : {F : Type 0} → Check F → Type 0
 Holds c = c .holds ≡ true

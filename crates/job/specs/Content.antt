@@ -6,7 +6,7 @@ use lib.Dec.{eqb}
 use Rattle.std.specs.Iters.{counting}
 use Rattle.std.specs.declared.option.Option.{Option}
 use Rattle.std.specs.declared.option.Option.the-variants.{Some, None}
-use Rattle.job.specs.Fields.{sheets, orders, row, dueStep, label}
+use Rattle.jobfile.specs.Fields.{sheets, orders, row, dueStep, label}
 
 -- a row for each sheet; a due step, if there is one, and a label for each order
 pub record Content : Type 0 where

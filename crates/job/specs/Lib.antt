@@ -1,8 +1,4 @@
-pub mod Check
 pub mod Content
-pub mod Edition
-pub mod Fields
 pub mod Jobs
-pub mod Tests
-pub mod Verdict
+pub mod Reading
 pub mod WellFormed

@@ -9,8 +9,8 @@ use Rattle.std.specs.declared.option.Option.the-variants.{Some, None}
 use Rattle.std.specs.shelf.Lists.{All}
 use Rattle.sets.specs.Bits.{has, AllBelow}
 use Rattle.job.specs.Content.{Content, content}
-use Rattle.job.specs.Edition.{headerBytes, rowBytes, recordBytes, mostSheets, mostOrders, mostLabelBytes}
-use Rattle.job.specs.Fields.{edition, sheets, orders, rowsAt, recordsAt, statedLength, labelAt, labelBytes}
+use Rattle.jobfile.specs.Edition.{headerBytes, rowBytes, recordBytes, mostSheets, mostOrders, mostLabelBytes}
+use Rattle.jobfile.specs.Fields.{edition, sheets, orders, rowsAt, recordsAt, statedLength, labelAt, labelBytes}
 
 -- so many bytes from an offset on lie between the header and the end
 pub record Inside (file : List ℕ) (at size : ℕ) : Type 0 where

@@ -1,5 +1,5 @@
 // A job: a job file that has passed every check.
-ghost use Rattle.job.specs.Verdict.{accepts};
+ghost use Rattle.jobfile.specs.Checks.{accepts};
 ghost use Rattle.std.specs.Of.Vec.{vec-items};
 ghost use mathlib.Core.Bool.{true};
 ghost use mathlib.Core.Path.{_≡_};

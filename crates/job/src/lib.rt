@@ -1,6 +1,4 @@
-// The job file: a reader that takes exactly the well-formed files, and what an accepted file says.
-mod bytes;
-mod checks;
+// A job, read from a job file, and what it says.
 pub mod job;
 
 pub use job::Job;

@@ -16,7 +16,7 @@ use Rattle.faults.specs.declared.job.JobFault.{JobFault}
 use Rattle.sets.specs.Bits.{has}
 use Rattle.lines.specs.Lines.{line, refusedLine}
 use Rattle.job.specs.Content.{Content}
-use Rattle.job.specs.Verdict.{reading}
+use Rattle.job.specs.Reading.{reading}
 
 abbrev pub labelOf : Content → ℕ → List ℕ
 labelOf c order = getD (c .labels) order []

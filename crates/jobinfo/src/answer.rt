@@ -1,5 +1,5 @@
 // From the bytes of the input to the bytes printed.
-ghost use Rattle.job.specs.Verdict.{accepts};
+ghost use Rattle.jobfile.specs.Checks.{accepts};
 ghost use Rattle.jobinfo.specs.Wording.{printed};
 ghost use Rattle.std.specs.Of.Vec.{vec-items};
 ghost use Rattle.std.specs.Vec.{made};

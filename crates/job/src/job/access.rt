@@ -8,12 +8,12 @@ ghost use lib.ListN.{getD, length};
 ghost use mathlib.Core.List.{[]};
 ghost use mathlib.Core.Path.{_≡_};
 use super::Job;
-use crate::bytes::ORDERS_AT;
-use crate::bytes::SHEETS_AT;
-use crate::bytes::field;
-use crate::bytes::label;
-use crate::bytes::order_record;
-use crate::bytes::row;
+use jobfile::ORDERS_AT;
+use jobfile::SHEETS_AT;
+use jobfile::field;
+use jobfile::label;
+use jobfile::order_record;
+use jobfile::row;
 use sets::OrderSet;
 use sets::Rows;
 

@@ -1,8 +1,9 @@
 // From bytes to a job, or to the fault of the first check that fails.
 ghost use Rattle.faults.specs.declared.job.JobFault.{JobFault};
-ghost use Rattle.job.specs.Check.{FirstFault};
+ghost use Rattle.jobfile.specs.Check.{FirstFault};
 ghost use Rattle.job.specs.Jobs.{fileOf, outcome};
-ghost use Rattle.job.specs.Verdict.{checks, reading};
+ghost use Rattle.jobfile.specs.Checks.{checks};
+ghost use Rattle.job.specs.Reading.{reading};
 ghost use Rattle.job.specs.WellFormed.{WellFormed};
 ghost use Rattle.std.specs.Of.Vec.{vec-items};
 ghost use Rattle.std.specs.Orderings.{Decides};
@@ -10,8 +11,8 @@ ghost use Rattle.std.specs.Results.{isOk};
 ghost use Rattle.std.specs.Vec.{made, refused};
 ghost use mathlib.Core.Path.{_≡_};
 use super::Job;
-use crate::checks::check;
 use faults::JobFault;
+use jobfile::check;
 
 impl Job {
     // Takes the file; a refused file is dropped.

@@ -8,7 +8,7 @@ use Rattle.std.proofs.shelf.Lists.{getD-past}
 use Rattle.std.proofs.shelf.Tests.{cond-false, cond-true, eq-eqb, ne-eqb}
 use Rattle.std.specs.declared.option.Option.{Option}
 use Rattle.std.specs.declared.option.Option.the-variants.{None, Some}
-use Rattle.job.specs.Fields.{dueStep, orders}
+use Rattle.jobfile.specs.Fields.{dueStep, orders}
 use Rattle.job.specs.Jobs.{contentOf, fileOf}
 use Rattle.job.proofs.Accepted.{due-at, due-small, dues-length, labels-length}
 use Rattle.job.proofs.Readings.{accepted-passes}

@@ -2,7 +2,7 @@ use mathlib.Core.List.{[]}
 use mathlib.Core.Path.{sym, ap, _∙_}
 use native.Mathlib.Omega.{arith}
 use Rattle.std.proofs.shelf.Lists.{getD-past}
-use Rattle.job.specs.Fields.{label}
+use Rattle.jobfile.specs.Fields.{label}
 use Rattle.job.specs.Jobs.{contentOf, fileOf}
 use Rattle.job.proofs.Accepted.{label-at, labels-length}
 use Rattle.job.proofs.job.Job.label.Needs as need

@@ -1,5 +1,5 @@
 use mathlib.Core.Path.{sym, ap, _∙_}
-use Rattle.job.specs.Fields.{orders}
+use Rattle.jobfile.specs.Fields.{orders}
 use Rattle.job.specs.Jobs.{fileOf}
 use Rattle.job.proofs.Accepted.{labels-length}
 use Rattle.job.proofs.job.Job.orders.Needs as need

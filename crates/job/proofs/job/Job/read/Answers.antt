@@ -2,8 +2,8 @@ use mathlib.Core.Path.{refl, sym, ap, _∙_}
 use Rattle.std.proofs.shelf.Results.{err-from-errBy}
 use Rattle.std.specs.Of.Vec.{vec-items}
 use Rattle.std.specs.declared.result.Result.the-variants.{Err}
-use Rattle.job.specs.Check.{verdict}
-use Rattle.job.specs.Verdict.{checks}
+use Rattle.jobfile.specs.Check.{verdict}
+use Rattle.jobfile.specs.Checks.{checks}
 use Rattle.job.proofs.Readings.{accepts-well, reading-accepts, refusal}
 use Rattle.job.proofs.job.Job.read.Needs as need
 

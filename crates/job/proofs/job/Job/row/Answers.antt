@@ -1,7 +1,7 @@
 use mathlib.Core.Path.{sym, ap₂, _∙_}
 use native.Mathlib.Omega.{arith}
 use Rattle.std.proofs.shelf.Lists.{getD-past}
-use Rattle.job.specs.Fields.{row}
+use Rattle.jobfile.specs.Fields.{row}
 use Rattle.job.specs.Jobs.{contentOf, fileOf}
 use Rattle.job.proofs.Accepted.{row-at, rows-length}
 use Rattle.job.proofs.job.Job.row.Needs as need

@@ -1,5 +1,5 @@
 use mathlib.Core.Path.{sym, ap, _∙_}
-use Rattle.job.specs.Fields.{sheets}
+use Rattle.jobfile.specs.Fields.{sheets}
 use Rattle.job.specs.Jobs.{fileOf}
 use Rattle.job.proofs.Accepted.{rows-length}
 use Rattle.job.proofs.job.Job.sheets.Needs as need

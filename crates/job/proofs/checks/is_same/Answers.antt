@@ -1,8 +1,0 @@
-use borrow.Author.Needs.{needs}
-use Rattle.std.proofs.shelf.Equals.{matches-decides, sameBytes-decides}
-use Rattle.job.proofs.checks.is_same.Needs as need
-
-pub returns : need.returns
-returns c =
-    let same = matches-decides _ _ _ (c .eq .ensures) in
-    record { value = search (needs, sameBytes-decides) }
