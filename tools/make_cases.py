@@ -115,17 +115,12 @@ def main():
     out = [
         "// Cases for the reader, with the answers of a second reader. Written by tools/make_cases.py.",
         "",
-        "pub const WORKED: [u8; %d] = [" % len(jobs.WORKED),
-        *("    %d," % byte for byte in jobs.WORKED),
-        "];",
+        'pub const WORKED: &[u8; %d] = b"%s";' % (len(jobs.WORKED), "".join("\\x%02x" % byte for byte in jobs.WORKED)),
         "",
-        "// The worked job at another length, with some bytes changed. Number 0 says that the file is taken.",
-        "pub struct Patched {",
-        "    pub bytes: u16,",
-        "    pub patches: [(u16, u8); %d]," % most,
-        "    pub number: u8,",
-        "    pub place: usize,",
-        "}",
+        "// The worked job at another length and with some bytes changed: how many bytes, the changes, and the answer,",
+        "// a number and a place. Number 0 says that the file is taken.",
+        "#[derive(Clone, Copy)]",
+        "pub struct Patched(pub u16, pub [(u16, u8); %d], pub u8, pub usize);" % most,
         "",
         "const NONE: (u16, u8) = (65535, 0);",
         "",
@@ -134,25 +129,19 @@ def main():
     for name, size, patches in PATCHED:
         number, place = answer(patched(size, patches))
         cells = ["(%d, %d)" % patch for patch in patches] + ["NONE"] * (most - len(patches))
-        out.append("    // " + name)
-        out.append("    Patched { bytes: %d, patches: [%s], number: %d, place: %d }," % (size, ", ".join(cells), number, place))
+        out.append("    Patched(%d, [%s], %d, %d), // %s" % (size, ", ".join(cells), number, place, name))
     out += [
         "];",
         "",
-        "// Files in which every sheet serves every order.",
-        "pub struct Built {",
-        "    pub sheets: u16,",
-        "    pub orders: u16,",
-        "    pub label_bytes: u16,",
-        "    pub number: u8,",
-        "    pub place: usize,",
-        "}",
+        "// Files in which every sheet serves every order: sheets, orders, bytes of each label, and the answer.",
+        "#[derive(Clone, Copy)]",
+        "pub struct Built(pub u16, pub u16, pub u16, pub u8, pub usize);",
         "",
         "pub const BUILT: [Built; %d] = [" % len(BUILT),
     ]
     for sheets, orders, size in BUILT:
         number, place = answer(built(sheets, orders, size))
-        out.append("    Built { sheets: %d, orders: %d, label_bytes: %d, number: %d, place: %d }," % (sheets, orders, size, number, place))
+        out.append("    Built(%d, %d, %d, %d, %d)," % (sheets, orders, size, number, place))
     out.append("];")
     with open("crates/jobtests/src/cases.rt", "w", encoding="utf-8") as file:
         file.write("\n".join(out) + "\n")
