@@ -41,10 +41,7 @@ impl Text {
     pub fn word(self, word: &[u8]) -> Result<Text, AllocError>
         ensures value { λ r. ⌜ made r (λ t. bytesOf t ≡ bytesOf self ++ (32 ∷ now (word .entry))) ⌝ }
     {
-        let Text { mut bytes, heap } = self;
-        bytes.push(SPACE)?;
-        bytes.extend_from_slice(word)?;
-        Ok(Text { bytes, heap })
+        self.byte(SPACE)?.begin(word)
     }
 
     // A number as one word more.
@@ -59,8 +56,14 @@ impl Text {
     pub fn end(self) -> Result<Text, AllocError>
         ensures value { λ r. ⌜ made r (λ t. bytesOf t ≡ bytesOf self ++ (10 ∷ [])) ⌝ }
     {
+        self.byte(NEWLINE)
+    }
+
+    fn byte(self, byte: u8) -> Result<Text, AllocError>
+        ensures value { λ r. ⌜ made r (λ t. bytesOf t ≡ bytesOf self ++ (byte ∷ [])) ⌝ }
+    {
         let Text { mut bytes, heap } = self;
-        bytes.push(NEWLINE)?;
+        bytes.push(byte)?;
         Ok(Text { bytes, heap })
     }
 
