@@ -1,19 +1,17 @@
 -- A file passes every check exactly when it is well formed.
-use Prim.Native.Nat.{ℕ, zero, suc, min, _+_, _-_, _*_, _≤_, _<_, _^_}
-use mathlib.Core.Path.{_≡_, refl, sym, ap, subst, _∙_}
-use mathlib.Core.Bool.{Bool, true, false}
-use mathlib.Core.List.{List, [], _∷_, _++_, map}
+use Prim.Native.Nat.{ℕ, _*_, _≤_, _<_}
+use mathlib.Core.Path.{_≡_, sym, ap, subst, _∙_}
+use mathlib.Core.Bool.{true}
+use mathlib.Core.List.{List, [], _++_, map}
 use native.Mathlib.Omega.{arith}
-use lib.Dec.{eqb, leb, ltb}
-use lib.ListN.{length, getD, take, drop}
+use lib.ListN.{length, getD, drop}
 use Rattle.std.proofs.shelf.Counted.{getD-map-counting, length-map-counting}
-use Rattle.std.proofs.shelf.Elements.{all-append, all-weaker}
+use Rattle.std.proofs.shelf.Elements.{all-append}
 use Rattle.std.proofs.shelf.Lists.{length-take, length-drop}
 use Rattle.std.proofs.shelf.Tests.{and-from, and-parts, eqb-true, eq-eqb, leb-true, le-leb}
-use Rattle.std.specs.Iters.{counting}
 use Rattle.std.specs.Orderings.{Decides}
 use Rattle.std.specs.declared.option.Option.the-variants.{None}
-use Rattle.std.specs.declared.result.Result.the-variants.{Ok, Err}
+use Rattle.std.specs.declared.result.Result.the-variants.{Ok}
 use Rattle.std.specs.shelf.Lists.{All}
 use Rattle.sets.specs.Bits.{has, AllBelow}
 use Rattle.sets.proofs.Bits.{below-decides}
@@ -21,7 +19,7 @@ use Rattle.jobfile.specs.Check.{inTurn, verdict}
 use Rattle.job.specs.Content.{content, due}
 use Rattle.jobfile.specs.Edition.{headerBytes, rowBytes, recordBytes, mostSheets, mostOrders, mostLabelBytes}
 use Rattle.jobfile.specs.Fields.{edition, sheets, orders, rowsAt, recordsAt, statedLength, row, dueStep, label, labelAt, labelBytes}
-use Rattle.jobfile.specs.Tests.{all, between, inside, labelFits, printable, served}
+use Rattle.jobfile.specs.Tests.{between, inside, served}
 use Rattle.jobfile.specs.Checks.{checks, fileChecks, inFile, orderChecks, sheetChecks}
 use Rattle.job.specs.WellFormed.{Busy, Due, Inside, Label, Layout, Served, Sound, WellFormed}
 use Rattle.job.proofs.Conditions.{any-decides, between-decides, busy-decides, distinct-decides, due-decides, inside-decides, printed-decides}

@@ -1,6 +1,6 @@
 -- What holds of every element of a list made from a function of the index.
 use Prim.Native.Nat.{ℕ, zero, suc, _+_, _<_}
-use mathlib.Core.Path.{_≡_, sym, subst}
+use mathlib.Core.Path.{_≡_, subst}
 use mathlib.Core.List.{map}
 use native.Mathlib.Omega.{arith}
 use Rattle.std.proofs.shelf.Counted.{getD-map-counting, length-map-counting}

@@ -1,7 +1,7 @@
 -- The steps of the reader's loops.
-use Prim.Native.Nat.{ℕ, zero, suc, _+_, _-_, _≤_, _<_}
+use Prim.Native.Nat.{ℕ, zero, suc, _+_, _-_, _<_}
 use mathlib.Core.Path.{_≡_, refl, sym, ap, _∙_}
-use mathlib.Core.Bool.{Bool, true, false, cond, _&&_, _||_}
+use mathlib.Core.Bool.{Bool, true, false, _&&_}
 use mathlib.Core.List.{List, [], _∷_, _++_, map}
 use mathlib.Core.Logic.{⊎-elim}
 use native.Mathlib.Numerals.{add-one}
@@ -13,7 +13,7 @@ use Rattle.std.specs.declared.result.Result.{Result}
 use Rattle.std.specs.declared.result.Result.the-variants.{Ok, Err}
 use Rattle.faults.specs.declared.file.FileFault.{FileFault}
 use Rattle.faults.specs.declared.job.JobFault.the-variants.{File}
-use Rattle.jobfile.specs.Check.{Check, check, inTurn, verdict}
+use Rattle.jobfile.specs.Check.{Check, inTurn, verdict}
 use Rattle.jobfile.specs.Tests.{all, anyBelow}
 use Rattle.jobfile.specs.Checks.{inFile}
 
@@ -74,9 +74,6 @@ module _ {F : Type 0} where
 
     pub turn-stops : (fault : F) → verdict (checks i) ≡ Err fault → verdict (inTurn checks i (n - i)) ≡ Err fault
     turn-stops fault failed = ap verdict turn-more ∙ verdict-stops (checks i) (inTurn checks (i + 1) (n - (i + 1))) fault failed
-
-  pub turn-done : (checks : ℕ → List (Check F)) (i n : ℕ) → n ≤ i → verdict (inTurn checks i (n - i)) ≡ Ok tt
-  turn-done checks i n h = let none : n - i ≡ 0 = omega arith in ap (λ k. verdict (inTurn checks i k)) none
 
 -- faults of the file, carried inside faults of the job
 pub in-file-passes : (cs : List (Check FileFault)) → verdict cs ≡ Ok tt → verdict (map inFile cs) ≡ Ok tt

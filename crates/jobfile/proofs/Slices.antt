@@ -1,5 +1,5 @@
 -- A part of a list whose bounds are cut to its length, as if they were not.
-use Prim.Native.Nat.{ℕ, min, _-_, _≤_, _<_}
+use Prim.Native.Nat.{ℕ, min, _-_}
 use mathlib.Core.Path.{_≡_, sym, ap, ap₂, _∙_}
 use mathlib.Core.List.{List}
 use mathlib.Core.Logic.{⊎-elim}

@@ -1,5 +1,4 @@
 // The lines that say what a job is.
-ghost use Prim.Native.Nat.{_+_};
 ghost use Rattle.job.specs.Jobs.{contentOf};
 ghost use Rattle.jobinfo.specs.Wording.{jobText, labelsOf, orderLine, sheetLine};
 ghost use Rattle.lines.specs.Lines.{spaced};

@@ -1,5 +1,4 @@
 // What the file of a job says. Every accessor answers for every number: past the last sheet or order there is nothing.
-ghost use Prim.Native.Nat.{_+_};
 ghost use Rattle.job.specs.Jobs.{contentOf};
 ghost use Rattle.sets.specs.Orders.{members};
 ghost use Rattle.sets.specs.RowLists.{rowsOf};

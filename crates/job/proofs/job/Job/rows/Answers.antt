@@ -1,10 +1,9 @@
-use Prim.Native.Nat.{ℕ, _<_}
-use mathlib.Core.Bool.{cond, true}
+use Prim.Native.Nat.{_<_}
+use mathlib.Core.Bool.{true}
 use mathlib.Core.List.{[], _∷_, _++_}
 use mathlib.Core.Path.{_≡_, sym, ap, ap₂, _∙_}
 use native.Mathlib.Omega.{arith}
-use lib.Dec.{ltb}
-use lib.ListN.{length, getD, take}
+use lib.ListN.{length}
 use Rattle.std.proofs.shelf.Lists.{length-take-le, take-all, take-more}
 use Rattle.std.proofs.shelf.Tests.{cond-true, lt-ltb}
 use Rattle.sets.specs.Orders.{members}
