@@ -18,7 +18,7 @@ pub const ROWS_AT: u32 = 6;
 pub const RECORDS_AT: u32 = 8;
 
 // The bytes from an offset on, as many as asked for or as there are.
-pub fn part(file: &[u8], at: usize, size: usize) -> &[u8]
+fn part(file: &[u8], at: usize, size: usize) -> &[u8]
     ensures value { λ r. ⌜ now r ≡ take size (drop at (now (file .entry))) ⌝ }
 {
     let from = at.min(file.len());
@@ -26,7 +26,7 @@ pub fn part(file: &[u8], at: usize, size: usize) -> &[u8]
     &rest[0..size.min(rest.len())]
 }
 
-pub fn byte(file: &[u8], at: usize) -> u8
+fn byte(file: &[u8], at: usize) -> u8
     ensures value { λ r. ⌜ r ≡ getD (now (file .entry)) at 0 ⌝ }
 {
     if at < file.len() { file[at] } else { 0 }
