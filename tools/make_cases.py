@@ -117,31 +117,26 @@ def main():
         "",
         'pub const WORKED: &[u8; %d] = b"%s";' % (len(jobs.WORKED), "".join("\\x%02x" % byte for byte in jobs.WORKED)),
         "",
-        "// The worked job at another length and with some bytes changed: how many bytes, the changes, and the answer,",
-        "// a number and a place. Number 0 says that the file is taken.",
-        "#[derive(Clone, Copy)]",
-        "pub struct Patched(pub u16, pub [(u16, u8); %d], pub u8, pub usize);" % most,
+        "// The worked job at another length and with some bytes changed. A row has the number of bytes, then offset and byte",
+        "// for each change, then the answer, a number and a place. Number 0 says that the file is taken.",
+        "const NO: u16 = 65535;",
         "",
-        "const NONE: (u16, u8) = (65535, 0);",
-        "",
-        "pub const PATCHED: [Patched; %d] = [" % len(PATCHED),
+        "pub const PATCHED: [[u16; %d]; %d] = [" % (3 + 2 * most, len(PATCHED)),
     ]
     for name, size, patches in PATCHED:
         number, place = answer(patched(size, patches))
-        cells = ["(%d, %d)" % patch for patch in patches] + ["NONE"] * (most - len(patches))
-        out.append("    Patched(%d, [%s], %d, %d), // %s" % (size, ", ".join(cells), number, place, name))
+        cells = ["%d, %d" % patch for patch in patches] + ["NO, 0"] * (most - len(patches))
+        out.append("    [%d, %s, %d, %d], // %s" % (size, ", ".join(cells), number, place, name))
     out += [
         "];",
         "",
-        "// Files in which every sheet serves every order: sheets, orders, bytes of each label, and the answer.",
-        "#[derive(Clone, Copy)]",
-        "pub struct Built(pub u16, pub u16, pub u16, pub u8, pub usize);",
-        "",
-        "pub const BUILT: [Built; %d] = [" % len(BUILT),
+        "// Files in which every sheet serves every order. A row has the numbers of sheets and orders, the bytes of each label,",
+        "// and the answer, a number and a place.",
+        "pub const BUILT: [[u16; 5]; %d] = [" % len(BUILT),
     ]
     for sheets, orders, size in BUILT:
         number, place = answer(built(sheets, orders, size))
-        out.append("    Built(%d, %d, %d, %d, %d)," % (sheets, orders, size, number, place))
+        out.append("    [%d, %d, %d, %d, %d]," % (sheets, orders, size, number, place))
     out.append("];")
     with open("crates/jobtests/src/cases.rt", "w", encoding="utf-8") as file:
         file.write("\n".join(out) + "\n")

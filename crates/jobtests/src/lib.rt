@@ -5,12 +5,9 @@ mod cases;
 #[cfg(test)]
 mod tests {
     use crate::cases::BUILT;
-    use crate::cases::Built;
     use crate::cases::PATCHED;
-    use crate::cases::Patched;
     use crate::cases::WORKED;
     use faults::Layer;
-    use faults::layer::LayerDebug;
     use faults::layer::LayerPartialEq;
     use job::Job;
     use sets::SheetSet;
@@ -19,7 +16,7 @@ mod tests {
     use std::test::*;
 
     // The worked job at the case's length, with its bytes changed.
-    fn patched(heap: Global, bytes: u16, patches: [(u16, u8); 3]) -> Result<Vec<u8>, AllocError> {
+    fn patched(heap: Global, bytes: u16, patches: [(u16, u16); 3]) -> Result<Vec<u8>, AllocError> {
         let mut file = Vec::new(heap);
         for at in 0..usize::from(bytes) {
             file.push(if at < 60 { WORKED[at] } else { 0 })?;
@@ -27,7 +24,7 @@ mod tests {
         for (at, byte) in patches {
             let at = usize::from(at);
             if at < file.len() {
-                file[at] = byte;
+                file[at] = (byte & 0xff) as u8;
             }
         }
         Ok(file)
@@ -110,13 +107,14 @@ mod tests {
     }
 
     // A file is taken, or refused with this number, in its layer, at this place.
-    fn reads(at: usize, file: Vec<u8>, number: u8, place: usize) -> Result<(), Fail> {
+    fn reads(at: usize, file: Vec<u8>, number: u16, place: u16) -> Result<(), Fail> {
         match Job::read(file) {
-            Ok(_) => check_eq((at, 0), (at, number)),
+            Ok(_) => check_eq(0, number).note(at),
             Err(fault) => {
+                check_eq(u16::from(fault.number()), number).note(at)?;
+                check_eq(fault.place(), usize::from(place)).note(at)?;
                 let layer = if number < 11 { Layer::File } else { Layer::Job };
-                check_eq(fault.layer(), layer)?;
-                check_eq((at, fault.number(), fault.place()), (at, number, place))
+                check(fault.layer() == layer).note(at)
             }
         }
     }
@@ -124,8 +122,9 @@ mod tests {
     #[test]
     fn patched_files(rt: LibcRuntime) -> Result<(), Fail> {
         for (at, case) in PATCHED.iter().enumerate() {
-            let Patched(bytes, patches, number, place) = *case;
-            reads(at, patched(rt.alloc(), bytes, patches)?, number, place)?;
+            let [bytes, a, x, b, y, c, z, number, place] = *case;
+            let file = patched(rt.alloc(), bytes, [(a, x), (b, y), (c, z)])?;
+            reads(at, file, number, place)?;
         }
         Ok(())
     }
@@ -133,7 +132,7 @@ mod tests {
     #[test]
     fn built_files(rt: LibcRuntime) -> Result<(), Fail> {
         for (at, case) in BUILT.iter().enumerate() {
-            let Built(sheets, orders, size, number, place) = *case;
+            let [sheets, orders, size, number, place] = *case;
             reads(at, built(rt.alloc(), sheets, orders, size)?, number, place)?;
         }
         Ok(())
@@ -144,17 +143,13 @@ mod tests {
         let Ok(job) = Job::read(WORKED.to_vec(rt.alloc())?) else {
             return Err(Fail::new("the worked job is refused"));
         };
-        check_eq((job.sheets(), job.orders()), (3, 3))?;
+        check(job.sheets() == 3 && job.orders() == 3)?;
         check(job.row(1).has(1) && job.row(1).has(2) && !job.row(1).has(0))?;
         check(job.row(3).is_empty())?;
-        check_eq(
-            (job.due(0), job.due(1), job.due(2), job.due(3)),
-            (Some(2), None, Some(3), None),
-        )?;
-        check_eq(
-            (job.label(0), job.label(2), job.label(3)),
-            (b"K7", b"R9", b""),
-        )?;
+        check(job.due(0) == Some(2) && job.due(1) == None && job.due(2) == Some(3))?;
+        check(job.due(3) == None)?;
+        check(job.label(0) == b"K7" && job.label(2) == b"R9")?;
+        check(job.label(3).is_empty())?;
         let reach = job.rows().reach(SheetSet { bits: 5 });
         check(reach.has(0) && reach.has(1) && !reach.has(2))
     }
