@@ -3,7 +3,7 @@ ghost use Rattle.faults.specs.Refusals.{fileRefusal};
 ghost use mathlib.Core.Path.{_≡_};
 use crate::layer::Layer;
 
-#[derive(Clone, Copy, PartialEq, Eq, Debug)]
+#[derive(Clone, Copy)]
 pub enum FileFault {
     // fewer bytes than a header has
     Short { bytes: usize },

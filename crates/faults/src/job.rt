@@ -3,11 +3,9 @@ ghost use Rattle.faults.specs.Refusals.{jobRefusal};
 ghost use Rattle.faults.specs.declared.job.JobFault.the-variants.{File};
 ghost use mathlib.Core.Path.{_≡_};
 use crate::file::FileFault;
-use crate::file::FileFaultDebug;
-use crate::file::FileFaultPartialEq;
 use crate::layer::Layer;
 
-#[derive(Clone, Copy, PartialEq, Eq, Debug)]
+#[derive(Clone, Copy)]
 pub enum JobFault {
     // the bytes are no job file
     File(FileFault),

@@ -16,7 +16,7 @@ ghost use mathlib.Core.Path.{_≡_};
 // How many orders a set has room for.
 const ROOM: u16 = 64;
 
-#[derive(Clone, Copy, PartialEq, Eq)]
+#[derive(Clone, Copy)]
 pub struct OrderSet {
     bits: u64,
 }

@@ -12,7 +12,7 @@ ghost use mathlib.Core.Path.{_≡_};
 // How many sheets a set has room for.
 const ROOM: u8 = 32;
 
-#[derive(Clone, Copy, PartialEq, Eq)]
+#[derive(Clone, Copy)]
 pub struct SheetSet {
     pub bits: u32,
 }
