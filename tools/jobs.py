@@ -1,4 +1,4 @@
-"""Job files in Python: a maker and a second reader, written from docs/JOB-FILE.md and not from the proved code."""
+"""Job files in Python: a maker and a second reader. They share no code with the proved reader, but have the same author."""
 import struct
 
 
