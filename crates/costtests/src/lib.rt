@@ -1,3 +1,5 @@
+#![tactic(auto)]
+
 // Tests of what sequences cost: lists of sheets as a table, each measured and valued by every question. Beside them, tests of
 // rules and objectives at their ends.
 #[cfg(test)]
@@ -18,7 +20,6 @@ mod tests {
     use measures::measure;
     use questions::step_costs;
     use std::alloc::Global;
-    use std::process::Abort;
     use std::test::Fail;
 
     fn read(heap: Global, file: &[u8]) -> Result<Job, Fail> {
@@ -28,118 +29,122 @@ mod tests {
         }
     }
 
+    // The test fails where this does not hold, and names the case.
+    fn check(holds: bool, at: usize) -> Result<(), Fail> {
+        if holds {
+            Ok(())
+        } else {
+            Err(Fail::new(format_args!("case {at}")))
+        }
+    }
+
     // A sequence costs what the table says.
-    fn measured(rt: &impl Abort, job: &Job, case: Case) -> Result<(), Fail> {
+    fn measured(at: usize, job: &Job, case: Case) -> Result<(), Fail> {
         let (list, peak, spread, lateness) = case;
         let Some(found) = measure(job, list) else {
-            return Err(Fail::new("not taken for a sequence"));
+            return Err(Fail::new(format_args!("case {at} is not taken for a sequence")));
         };
-        assert_eq!(rt; found.peak, peak);
-        assert_eq!(rt; found.spread, spread);
-        assert_eq!(rt; found.lateness, lateness);
-        Ok(())
+        check(found.peak == peak, at)?;
+        check(found.spread == spread, at)?;
+        check(found.lateness == lateness, at)
     }
 
     // Found step by step, it costs the same. It counts once, and where a place is missing not at all.
-    fn stepped(rt: &impl Abort, job: &Job, case: Case) -> Result<(), Fail> {
+    fn stepped(at: usize, job: &Job, case: Case) -> Result<(), Fail> {
         let (list, peak, spread, lateness) = case;
         let found = step_costs(job, list, peak);
-        assert_eq!(rt; found.peak, Some(u32::from(peak)));
-        assert_eq!(rt; found.spread, Some(spread));
-        assert_eq!(rt; found.lateness, Some(lateness));
-        assert_eq!(rt; found.count, Some(1));
+        check(found.peak == Some(u32::from(peak)), at)?;
+        check(found.spread == Some(spread), at)?;
+        check(found.lateness == Some(lateness), at)?;
+        check(found.count == Some(1), at)?;
         let Some(best) = found.best else {
-            return Err(Fail::new("forbidden"));
+            return Err(Fail::new(format_args!("case {at} is forbidden")));
         };
-        assert_eq!(rt; best.cost(), spread);
-        assert_eq!(rt; best.count(), 1);
-        assert_eq!(rt; step_costs(job, list, peak.saturating_sub(1)).count, None);
-        Ok(())
+        check(best.cost() == spread && best.count() == 1, at)?;
+        check(
+            step_costs(job, list, peak.saturating_sub(1)).count == None,
+            at,
+        )
     }
 
-    fn costs(rt: &impl Abort, job: &Job, cases: &[Case]) -> Result<(), Fail> {
+    fn costs(job: &Job, cases: &[Case]) -> Result<(), Fail> {
         for (at, case) in cases.iter().enumerate() {
-            measured(rt, job, *case).note(at)?;
-            stepped(rt, job, *case).note(at)?;
+            measured(at, job, *case)?;
+            stepped(at, job, *case)?;
         }
         Ok(())
     }
 
     // No question has a value for a list with a step that no rule permits.
-    fn unvalued(rt: &impl Abort, job: &Job, list: &[u8]) -> Result<(), Fail> {
+    fn unvalued(at: usize, job: &Job, list: &[u8]) -> Result<(), Fail> {
         let found = step_costs(job, list, 65535);
-        assert_eq!(rt; found.peak, None);
-        assert_eq!(rt; found.spread, None);
-        assert_eq!(rt; found.lateness, None);
-        assert_eq!(rt; found.count, None);
-        assert!(rt; found.best.is_none());
-        Ok(())
+        check(found.peak == None && found.spread == None, at)?;
+        check(found.lateness == None && found.count == None, at)?;
+        check(found.best.is_none(), at)
     }
 
-    fn forbidden(rt: &impl Abort, job: &Job, lists: &[&[u8]]) -> Result<(), Fail> {
+    fn forbidden(job: &Job, lists: &[&[u8]]) -> Result<(), Fail> {
         for (at, list) in lists.iter().enumerate() {
-            unvalued(rt, job, *list).note(at)?;
+            unvalued(at, job, *list)?;
         }
-        unmeasured(rt, job, lists);
-        Ok(())
+        unmeasured(job, lists)
     }
 
     // What is no sequence has no costs.
-    fn unmeasured(rt: &impl Abort, job: &Job, lists: &[&[u8]]) {
+    fn unmeasured(job: &Job, lists: &[&[u8]]) -> Result<(), Fail> {
         for (at, list) in lists.iter().enumerate() {
-            assert!(rt; measure(job, *list).is_none(), "{}", at);
+            check(measure(job, *list).is_none(), at)?;
         }
+        Ok(())
     }
 
     // Sequences, lists with a forbidden step, and lists that end too early.
     fn all_lists(
-        rt: &impl Abort,
         job: &Job,
         cases: &[Case],
         refused: &[&[u8]],
         short: &[&[u8]],
     ) -> Result<(), Fail> {
-        costs(rt, job, cases)?;
-        forbidden(rt, job, refused)?;
-        unmeasured(rt, job, short);
-        Ok(())
+        costs(job, cases)?;
+        forbidden(job, refused)?;
+        unmeasured(job, short)
     }
 
     #[test]
     fn job_a(rt: HostRuntime) -> Result<(), Fail> {
         let job = read(rt.alloc(), A_FILE)?;
-        all_lists(&rt, &job, &A, &A_FORBIDDEN, &A_SHORT)
+        all_lists(&job, &A, &A_FORBIDDEN, &A_SHORT)
     }
 
     #[test]
     fn job_b(rt: HostRuntime) -> Result<(), Fail> {
-        costs(&rt, &read(rt.alloc(), B_FILE)?, &B)
+        costs(&read(rt.alloc(), B_FILE)?, &B)
     }
 
     #[test]
     fn one_sheet(rt: HostRuntime) -> Result<(), Fail> {
         let job = read(rt.alloc(), ONE_FILE)?;
-        all_lists(&rt, &job, &ONE, &ONE_FORBIDDEN, &ONE_SHORT)
+        all_lists(&job, &ONE, &ONE_FORBIDDEN, &ONE_SHORT)
     }
 
     #[test]
     fn the_same_order(rt: HostRuntime) -> Result<(), Fail> {
-        costs(&rt, &read(rt.alloc(), SAME_FILE)?, &SAME)
+        costs(&read(rt.alloc(), SAME_FILE)?, &SAME)
     }
 
     #[test]
     fn five_sheets(rt: HostRuntime) -> Result<(), Fail> {
-        costs(&rt, &read(rt.alloc(), FIVE_FILE)?, &FIVE)
+        costs(&read(rt.alloc(), FIVE_FILE)?, &FIVE)
     }
 
     #[test]
     fn large_job(rt: HostRuntime) -> Result<(), Fail> {
         let job = read(rt.alloc(), LARGE_FILE)?;
-        all_lists(&rt, &job, &LARGE, &LARGE_FORBIDDEN, &LARGE_SHORT)
+        all_lists(&job, &LARGE, &LARGE_FORBIDDEN, &LARGE_SHORT)
     }
 
     #[test]
     fn full_job(rt: HostRuntime) -> Result<(), Fail> {
-        costs(&rt, &read(rt.alloc(), FULL_FILE)?, &FULL)
+        costs(&read(rt.alloc(), FULL_FILE)?, &FULL)
     }
 }

@@ -1,6 +1,5 @@
 // Tests at the ends: figures of 0 and 65,535, costs next to 4,294,967,295, and counts next to 2^64.
 use objectives::{Best, CostCount, Count, Objective, Peak, Picking, Total, at_most_as_dear};
-use std::process::Abort;
 
 const TOP: u32 = 4294967295;
 
@@ -55,20 +54,19 @@ fn counts(rt: HostRuntime) {
     assert!(rt; Count.join(top, 1) == 0 && Count.join(top, top) == top - 1);
 }
 
-fn is(rt: &impl Abort, value: CostCount, cost: u32, count: u64) {
-    assert_eq!(rt; value.cost(), cost);
-    assert_eq!(rt; value.count(), count);
+fn is(value: CostCount, cost: u32, count: u64) -> bool {
+    value.cost() == cost && value.count() == count
 }
 
 #[test]
 fn best_joins(rt: HostRuntime) {
     let start = Best.start();
     let dearer = Best.extend(start, 1);
-    is(&rt, start, 0, 1);
-    is(&rt, dearer, 1, 1);
-    is(&rt, Best.join(start, dearer), 0, 1);
-    is(&rt, Best.join(dearer, start), 0, 1);
-    is(&rt, Best.join(start, start), 0, 2);
+    assert!(rt; is(start, 0, 1));
+    assert!(rt; is(dearer, 1, 1));
+    assert!(rt; is(Best.join(start, dearer), 0, 1));
+    assert!(rt; is(Best.join(dearer, start), 0, 1));
+    assert!(rt; is(Best.join(start, start), 0, 2));
     assert!(rt; start.same(start) && !start.same(dearer) && !start.same(Best.join(start, start)));
 }
 
@@ -79,17 +77,17 @@ fn best_at_the_dearest(rt: HostRuntime) {
     for _ in 0..65536 {
         value = Best.extend(value, 65535);
     }
-    is(&rt, value, TOP - 65535, 1);
+    assert!(rt; is(value, TOP - 65535, 1));
     let below = Best.extend(value, 65534);
-    is(&rt, below, TOP - 1, 1);
-    is(&rt, Best.extend(below, 0), TOP - 1, 1);
+    assert!(rt; is(below, TOP - 1, 1));
+    assert!(rt; is(Best.extend(below, 0), TOP - 1, 1));
     let dearest = Best.extend(value, 65535);
-    is(&rt, dearest, TOP, 0);
-    is(&rt, Best.extend(below, 1), TOP, 0);
-    is(&rt, Best.extend(below, 65535), TOP, 0);
-    is(&rt, Best.extend(dearest, 0), TOP, 0);
-    is(&rt, Best.join(dearest, dearest), TOP, 0);
-    is(&rt, Best.join(dearest, below), TOP - 1, 1);
+    assert!(rt; is(dearest, TOP, 0));
+    assert!(rt; is(Best.extend(below, 1), TOP, 0));
+    assert!(rt; is(Best.extend(below, 65535), TOP, 0));
+    assert!(rt; is(Best.extend(dearest, 0), TOP, 0));
+    assert!(rt; is(Best.join(dearest, dearest), TOP, 0));
+    assert!(rt; is(Best.join(dearest, below), TOP - 1, 1));
 }
 
 // A value joined with itself has twice the count.
@@ -99,8 +97,8 @@ fn best_counts_wrap(rt: HostRuntime) {
     for _ in 0..63 {
         value = Best.join(value, value);
     }
-    is(&rt, value, 0, 9223372036854775808);
+    assert!(rt; is(value, 0, 9223372036854775808));
     let none = Best.join(value, value);
-    is(&rt, none, 0, 0);
-    is(&rt, Best.join(none, Best.start()), 0, 1);
+    assert!(rt; is(none, 0, 0));
+    assert!(rt; is(Best.join(none, Best.start()), 0, 1));
 }

@@ -1,4 +1,6 @@
 // The faults of the planner's layers, each with its number, its layer and its place.
+#![tactic(auto)]
+
 pub mod file;
 pub mod job;
 pub mod layer;

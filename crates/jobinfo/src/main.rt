@@ -1,4 +1,6 @@
 // Prints what a job file on standard input says, or the one line that says why it is refused.
+#![tactic(auto)]
+
 mod answer;
 mod describe;
 

@@ -1,4 +1,6 @@
 // Text in lines, as the programs print it: words with one space between, each line ended by a newline.
+#![tactic(auto)]
+
 pub mod refused;
 pub mod text;
 

@@ -1,4 +1,6 @@
 // What a given sequence of a job costs, straight from the definitions of the trade: for tests, and for a person's questions.
+#![tactic(auto)]
+
 pub mod measuring;
 pub mod naming;
 pub mod stacks;

@@ -1,6 +1,6 @@
 -- At most as dear, of an objective that picks, is a total preorder.
 use Rattle.sequences.specs.Values.{Ops, Lawful, Picks, AtMostAsDear, TotalPreorder}
-use Rattle.std.proofs.Common.{◌≡◌, Bool, true, false, cond, ◌⊎◌, Decides, sym, refl, ap, ◌∙◌, inl, inr, ⊎_elim}
+use Rattle.std.proofs.Common.{◌≡◌, Bool, true, false, cond, Decides, sym, refl, ap, ◌∙◌, inl, inr, ⊎_elim}
 use mathlib.Core.Bool.{false≢true}
 
 module _ {M : Type 0} (o : Ops M) (laws : Lawful o) where

@@ -1,4 +1,6 @@
 // Objectives: what a sequence is worth, and which of two values is kept.
+#![tactic(auto)]
+
 pub mod best;
 pub mod count;
 pub mod dearness;

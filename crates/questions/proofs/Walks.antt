@@ -1,5 +1,5 @@
 -- The value of a sequence, one step after another.
-use Rattle.std.proofs.Common.{◌≡◌, ℕ, ◌+◌, ◌<◌, false, ltb, List, [], length, get_or, drop, is_some, Some, None, fold, Option, sym, refl, ap, ◌∙◌, ⊎_elim, arith}
+use Rattle.std.proofs.Common.{◌≡◌, ℕ, ◌+◌, ◌<◌, false, ltb, List, length, get_or, drop, is_some, Some, None, fold, Option, sym, refl, ap, ◌∙◌, ⊎_elim, arith}
 use Rattle.sets.specs.Bits.{with, with_in}
 use Rattle.std.proofs.lemmas.List.{at_drop_more}
 use Rattle.std.proofs.lemmas.Bool.{both_ways, cases_lt, cond-true, lt-ltb}

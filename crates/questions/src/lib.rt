@@ -1,4 +1,6 @@
 // What is asked of a job: an objective over a step rule, with what it comes to in the words of the trade.
+#![tactic(auto)]
+
 pub mod asked;
 pub mod question;
 pub mod steps;

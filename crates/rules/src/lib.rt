@@ -1,4 +1,6 @@
 // Step rules: which sheet can come next after those done, and what the step costs.
+#![tactic(auto)]
+
 pub mod answer;
 pub mod due;
 pub mod limit;

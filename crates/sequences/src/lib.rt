@@ -1,1 +1,3 @@
+#![tactic(auto)]
+
 // Sequences of sheets and what they cost: definitions and theorems.

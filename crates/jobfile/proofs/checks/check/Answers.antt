@@ -6,11 +6,11 @@ use Rattle.jobfile.specs.Checks.{file_checks, in_file, order_checks, sheet_check
 use Rattle.jobfile.proofs.Loops.{in_file_passes, in_file_stops, verdict_passes, verdict_stops}
 use Rattle.jobfile.proofs.checks.check.Goals as goal
 
-pub returns-in-err-check-file : goal.returns-in-err-check-file
-returns-in-err-check-file c =
+pub returns-in_err-check_file : goal.returns-in_err-check_file
+returns-in_err-check_file c =
     let file = c.args.file.now in
-    let p = err_from_is_err_and c.from-residual.result c.from-residual.ensures.1 in
-    let failed = in_file_stops (file_checks file) _ (sym c.in-err-check-file.ensures.value) in
+    let p = err_from_is_err_and c.from_residual.result c.from_residual.ensures.1 in
+    let failed = in_file_stops (file_checks file) _ (sym c.in_err-check_file.ensures.value) in
     record {
       value =
           p.1
@@ -20,11 +20,11 @@ returns-in-err-check-file c =
           (in_turn (sheet_checks file) 0 (sheets file) ++ in_turn (order_checks file) 0 (orders file)) _ failed));
     }
 
-pub returns-in-err-check-sheets : goal.returns-in-err-check-sheets
-returns-in-err-check-sheets c =
+pub returns-in_err-check_sheets : goal.returns-in_err-check_sheets
+returns-in_err-check_sheets c =
     let file = c.args.file.now in
-    let p = err_from_is_err_and c.from-residual-in-err-check-sheets.result c.from-residual-in-err-check-sheets.ensures.1 in
-    let before = in_file_passes (file_checks file) (sym c.in-ok-check-file.ensures.value) in
+    let p = err_from_is_err_and c.from_residual-in_err-check_sheets.result c.from_residual-in_err-check_sheets.ensures.1 in
+    let before = in_file_passes (file_checks file) (sym c.in_ok-check_file.ensures.value) in
     record {
       value =
           p.1
@@ -33,19 +33,19 @@ returns-in-err-check-sheets c =
           (verdict_passes (map in_file (file_checks file))
           (in_turn (sheet_checks file) 0 (sheets file) ++ in_turn (order_checks file) 0 (orders file)) before
           ∙ verdict_stops (in_turn (sheet_checks file) 0 (sheets file)) (in_turn (order_checks file) 0 (orders file)) _
-          (sym c.in-err-check-sheets.ensures.value)));
+          (sym c.in_err-check_sheets.ensures.value)));
     }
 
 pub returns : goal.returns
 returns c =
     let file = c.args.file.now in
-    let before = in_file_passes (file_checks file) (sym c.in-ok-check-file.ensures.value) in
+    let before = in_file_passes (file_checks file) (sym c.in_ok-check_file.ensures.value) in
     record {
       value =
-          c.check-orders.ensures.value
+          c.check_orders.ensures.value
           ∙ sym
           (verdict_passes (map in_file (file_checks file))
           (in_turn (sheet_checks file) 0 (sheets file) ++ in_turn (order_checks file) 0 (orders file)) before
           ∙ verdict_passes (in_turn (sheet_checks file) 0 (sheets file)) (in_turn (order_checks file) 0 (orders file))
-          (sym c.in-ok-check-sheets.ensures.value));
+          (sym c.in_ok-check_sheets.ensures.value));
     }

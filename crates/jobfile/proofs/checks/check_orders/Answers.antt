@@ -5,12 +5,12 @@ use Rattle.jobfile.specs.Checks.{order_checks}
 use Rattle.jobfile.proofs.Loops.{turn_passes, turn_stops}
 use Rattle.jobfile.proofs.checks.check_orders.Goals as goal
 
-pub returns-in-err-check-order : goal.returns-in-err-check-order
-returns-in-err-check-order c =
+pub returns-in_err-check_order : goal.returns-in_err-check_order
+returns-in_err-check_order c =
     let file = c.args.file.now in
     let more : c.loop-order.order < orders file = omega (arith, c.field-orders.ensures.value) in
-    let p = err_from_is_err_and c.from-residual.result c.from-residual.ensures.1 in
-    let failed = c.in-err-check-order.ensures.value in
+    let p = err_from_is_err_and c.from_residual.result c.from_residual.ensures.1 in
+    let failed = c.in_err-check_order.ensures.value in
     record {
       value =
           p.1
@@ -22,4 +22,4 @@ loop-order-preserved c =
     let file = c.args.file.now in
     let more : c.loop-order.order < orders file = omega (arith, c.field-orders.ensures.value) in
     c.loop-order.invariant
-    ∙ turn_passes (order_checks file) c.loop-order.order (orders file) more (sym c.in-ok-check-order.ensures.value)
+    ∙ turn_passes (order_checks file) c.loop-order.order (orders file) more (sym c.in_ok-check_order.ensures.value)

@@ -4,8 +4,8 @@ use Rattle.jobfile.specs.Tests.{all, printable}
 use Rattle.jobfile.proofs.Loops.{all_more}
 use Rattle.jobfile.proofs.checks.is_printable.Goals as goal
 
-pub returns-then-not-is-label-byte : goal.returns-then-not-is-label-byte
-returns-then-not-is-label-byte c =
+pub returns-then-not-is_label_byte : goal.returns-then-not-is_label_byte
+returns-then-not-is_label_byte c =
     let label = c.args.label.now in
     let i = c.loop-byte.byte-index in
     record {
@@ -13,7 +13,7 @@ returns-then-not-is-label-byte c =
           sym
           (c.loop-byte.invariant
           ∙ (all_more printable label i c.loop-byte-test.true
-          ∙ ap (λ t. t && all printable (drop (i + 1) label)) (sym c.if-not-is-label-byte.ensures.value)));
+          ∙ ap (λ t. t && all printable (drop (i + 1) label)) (sym c.if-not-is_label_byte.ensures.value)));
     }
 
 pub loop-byte-preserved : goal.loop-byte-preserved
@@ -22,7 +22,7 @@ loop-byte-preserved c =
     let i = c.loop-byte.byte-index in
     c.loop-byte.invariant
     ∙ (all_more printable label i c.loop-byte-test.true
-    ∙ ap (λ t. t && all printable (drop (i + 1) label)) (sym c.if-not-is-label-byte.ensures.value))
+    ∙ ap (λ t. t && all printable (drop (i + 1) label)) (sym c.if-not-is_label_byte.ensures.value))
 
 pub returns : goal.returns
 returns c =

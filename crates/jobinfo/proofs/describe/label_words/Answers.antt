@@ -8,7 +8,7 @@ use Rattle.sets.specs.Orders.{members}
 use Rattle.jobinfo.specs.Wording.{label_of}
 use Rattle.jobinfo.proofs.Growth.{words_more, words_same}
 use Rattle.jobinfo.proofs.describe.label_words.Goals as goal
-use Rattle.jobinfo.proofs.describe.label_words.Goals.{then-has+in-ok-text, else-has}
+use Rattle.jobinfo.proofs.describe.label_words.Goals.{then-has+in_ok-text, else-has}
 
 pub loop-order-preserved : goal.loop-order-preserved
 loop-order-preserved c =
@@ -16,9 +16,9 @@ loop-order-preserved c =
     let test = has (members c.row-row.result) in
     let order = c.loop-order.order in
     elim c.if-has.branch [
-      | then-has+in-ok-text w ↦
+      | then-has+in_ok-text w ↦
           ap bytes_of w.text-is
-          ∙ (w.in-ok-text.ensures.value
+          ∙ (w.in_ok-text.ensures.value
           ∙ (ap₂ (λ bs word. bs ++ spaced word) c.loop-order.invariant w.label.ensures.value
           ∙ words_more spaced label test (bytes_of c.args.text) order (sym c.has.ensures.value ∙ w.if-has.true)))
       | else-has w ↦

@@ -8,5 +8,5 @@ use Rattle.jobinfo.proofs.describe.order_lines.Goals as goal
 pub loop-order-preserved : goal.loop-order-preserved
 loop-order-preserved c =
     let line = order_line (content_of c.args.job.now) in
-    c.in-ok-text.ensures.value
+    c.in_ok-text.ensures.value
     ∙ (ap (λ bs. bs ++ line c.loop-order.order) c.loop-order.invariant ∙ lines_more line (bytes_of c.args.text) c.loop-order.order)

@@ -8,5 +8,5 @@ use Rattle.jobinfo.proofs.describe.sheet_lines.Goals as goal
 pub loop-sheet-preserved : goal.loop-sheet-preserved
 loop-sheet-preserved c =
     let line = sheet_line (content_of c.args.job.now) in
-    c.in-ok-text.ensures.value
+    c.in_ok-text.ensures.value
     ∙ (ap (λ bs. bs ++ line c.loop-sheet.sheet) c.loop-sheet.invariant ∙ lines_more line (bytes_of c.args.text) c.loop-sheet.sheet)

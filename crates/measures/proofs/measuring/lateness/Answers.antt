@@ -16,11 +16,11 @@ module _ (c : goal.After-late) where
       omega
       (arith, c.late.ensures.value, late_le c.due.result c.of.result.last, c.of.ensures.last, last_within (serving (rows_of c.args.rows.now) c.loop-order.order) c.args.sequence.now, c.requires)
 
-pub overflow-cast-total : goal.overflow-cast-total
-overflow-cast-total c = record { fits = omega (arith, small c) }
+pub overflow_cast-total : goal.overflow_cast-total
+overflow_cast-total c = record { fits = omega (arith, small c) }
 
-pub overflow-add-total : goal.overflow-add-total
-overflow-add-total c = record { fits = omega (arith, small c, c.loop-order.invariant.0, c.loop-order-test.true, c.orders-order-end.type-inv) }
+pub overflow_add-total : goal.overflow_add-total
+overflow_add-total c = record { fits = omega (arith, small c, c.loop-order.invariant.0, c.loop-order-test.true, c.orders-order-end.type_inv) }
 
 pub loop-order-preserved : goal.loop-order-preserved
 loop-order-preserved c =

@@ -23,12 +23,12 @@ whole p p' q q' r r' a b c =
 pub spread-requires : goal.spread-requires
 spread-requires c =
     few_steps c.args.job.now c.sheets.result c.args.list.now c.sheets.ensures.value
-    (c.is_sequence_lem.ensures.meaning.0 c.if-not-is-sequence.false)
+    (c.is_sequence.ensures.meaning.0 c.if-not-is_sequence.false)
 
 pub lateness-requires : goal.lateness-requires
 lateness-requires c =
     few_steps c.args.job.now c.sheets.result c.args.list.now c.sheets.ensures.value
-    (c.is_sequence_lem.ensures.meaning.0 c.if-not-is-sequence.false)
+    (c.is_sequence.ensures.meaning.0 c.if-not-is_sequence.false)
 
 pub returns : goal.returns
 returns c =
@@ -36,7 +36,7 @@ returns c =
     let s = c.args.list.now in
     let m = length job.labels in
     let rows = c.rows-rows.ensures.value in
-    let is = ap (λ n. is_sequence n s) (sym c.sheets.ensures.value) ∙ (sym c.is_sequence_lem.ensures.value ∙ c.if-not-is-sequence.false) in
+    let is = ap (λ n. is_sequence n s) (sym c.sheets.ensures.value) ∙ (sym c.is_sequence.ensures.value ∙ c.if-not-is_sequence.false) in
     record {
       value =
           ap Some

@@ -13,11 +13,11 @@ module _ (c : goal.After-span) where
   small : c.span.result ≤ 16
   small = omega (arith, term, span_le (serving (rows_of c.args.rows.now) c.loop-order.order) c.args.sequence.now, c.requires)
 
-pub overflow-cast-total : goal.overflow-cast-total
-overflow-cast-total c = record { fits = omega (arith, small c) }
+pub overflow_cast-total : goal.overflow_cast-total
+overflow_cast-total c = record { fits = omega (arith, small c) }
 
-pub overflow-add-total : goal.overflow-add-total
-overflow-add-total c = record { fits = omega (arith, small c, c.loop-order.invariant.0, c.loop-order-test.true, c.ranges.orders.fits) }
+pub overflow_add-total : goal.overflow_add-total
+overflow_add-total c = record { fits = omega (arith, small c, c.loop-order.invariant.0, c.loop-order-test.true, c.ranges.orders.fits) }
 
 pub loop-order-preserved : goal.loop-order-preserved
 loop-order-preserved c =

@@ -6,19 +6,19 @@ use Rattle.sequences.proofs.Naming.{is_sequence_lem}
 use Rattle.sequences.specs.Sequences.{is_sequence, times}
 use Rattle.measures.proofs.naming.is_sequence.Goals as goal
 
-pub returns-then-all-below : goal.returns-then-all-below
-returns-then-all-below c =
+pub returns-then-all_below : goal.returns-then-all_below
+returns-then-all_below c =
     let sheets = c.args.sheets in
     let list = c.args.list.now in
     let once = list_all (λ p. eqb (times list p) 1) (range_with_len 0 sheets) in
-    let same = c.each-once.ensures.value ∙ ap (λ b. b && once) c.if-all-below.ensures.value in
-    record { value = same; meaning = Decides-at c.each-once.result (is_sequence sheets list) same (is_sequence_lem sheets list) }
+    let same = c.each_once.ensures.value ∙ ap (λ b. b && once) c.if-all_below.ensures.value in
+    record { value = same; meaning = Decides-at c.each_once.result (is_sequence sheets list) same (is_sequence_lem sheets list) }
 
-pub returns-else-all-below : goal.returns-else-all-below
-returns-else-all-below c =
+pub returns-else-all_below : goal.returns-else-all_below
+returns-else-all_below c =
     let sheets = c.args.sheets in
     let list = c.args.list.now in
     let below = list_all (λ p. ltb p sheets) list in
     let once = list_all (λ p. eqb (times list p) 1) (range_with_len 0 sheets) in
-    let same = c.if-all-below.false ∙ sym (and_left below once (sym c.if-all-below.ensures.value)) in
-    record { value = same; meaning = Decides-at c.all-below.result (is_sequence sheets list) same (is_sequence_lem sheets list) }
+    let same = c.if-all_below.false ∙ sym (and_left below once (sym c.if-all_below.ensures.value)) in
+    record { value = same; meaning = Decides-at c.all_below.result (is_sequence sheets list) same (is_sequence_lem sheets list) }

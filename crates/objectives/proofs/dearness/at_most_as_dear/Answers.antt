@@ -5,8 +5,8 @@ pub returns : goal.returns
 returns g c =
     let o = c.args.objective.now in
     let ops = g.O.Objective.ops o in
-    let answer = c.keeps-first.ensures in
+    let answer = c.keeps_first.ensures in
     record {
-      value = keeps_decides ops g.O.Objective.means c.args.one c.args.other c.keeps-first.result answer.kept answer.first;
+      value = keeps_decides ops g.O.Objective.means c.args.one c.args.other c.keeps_first.result answer.kept answer.first;
       preorder = dear_preorder ops (g.met.O.Objective.lawful o) (g.met.O.Picking.picks o);
     }

@@ -11,14 +11,14 @@ returns c =
     let job = content_of c.args.job.now in
     let sound = job_sound c.args.job.now in
     let s = c.args.list.now in
-    let peaks = sym (valued_itself c.value-of.result) ∙ (c.value-of.ensures.value ∙ ap (λ rule. value peak_ops rule s) c.over-open.ensures.rule) in
+    let peaks = sym (valued_itself c.value_of.result) ∙ (c.value_of.ensures.value ∙ ap (λ rule. value peak_ops rule s) c.over_open.ensures.rule) in
     let spreads =
-    sym (valued_itself c.value-of-2.result) ∙ (c.value-of-2.ensures.value ∙ ap (λ rule. value total_ops rule s) c.over-open-2.ensures.rule) in
-    let lates = sym (valued_itself c.value-of-3.result) ∙ (c.value-of-3.ensures.value ∙ ap (λ rule. value total_ops rule s) c.over-due.ensures.rule) in
-    let bests = c.value-of-4.ensures.value ∙ ap (λ rule. value best_ops rule s) c.over-open-3.ensures.rule in
+    sym (valued_itself c.value_of-2.result) ∙ (c.value_of-2.ensures.value ∙ ap (λ rule. value total_ops rule s) c.over_open-2.ensures.rule) in
+    let lates = sym (valued_itself c.value_of-3.result) ∙ (c.value_of-3.ensures.value ∙ ap (λ rule. value total_ops rule s) c.over_due.ensures.rule) in
+    let bests = c.value_of-4.ensures.value ∙ ap (λ rule. value best_ops rule s) c.over_open-3.ensures.rule in
     let counts =
-    sym (valued_itself c.value-of-5.result)
-    ∙ (c.value-of-5.ensures.value ∙ ap (λ rule. value count_ops rule s) c.over-open-within.ensures.rule) in
+    sym (valued_itself c.value_of-5.result)
+    ∙ (c.value_of-5.ensures.value ∙ ap (λ rule. value count_ops rule s) c.over_open_within.ensures.rule) in
     record {
       peak = peaks;
       spread = spreads;

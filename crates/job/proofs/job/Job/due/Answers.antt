@@ -17,17 +17,17 @@ returns-then-order-orders c =
           (omega (arith, c.orders.ensures.value, labels_length file, dues_length file)));
     }
 
-pub overflow-cast-result : goal.overflow-cast-result
-overflow-cast-result c =
+pub overflow_cast-result : goal.overflow_cast-result
+overflow_cast-result c =
     let file = file_of c.args.self.now in
-    let step = c.order-record-step.ensures.due ∙ ap (λ f. due_step f c.args.order) c.deref.ensures.value in
+    let step = c.order_record-step.ensures.due ∙ ap (λ f. due_step f c.args.order) c.deref.ensures.value in
     let listed : c.args.order < orders file = omega (arith, c.orders.ensures.value, labels_length file) in
     record { fits = omega (arith, step, due_small file (accepted_passes file c.args.self.now.accepted) c.args.order listed) }
 
 pub returns-then-step-eq0 : goal.returns-then-step-eq0
 returns-then-step-eq0 c =
     let file = file_of c.args.self.now in
-    let step = c.order-record-step.ensures.due ∙ ap (λ f. due_step f c.args.order) c.deref.ensures.value in
+    let step = c.order_record-step.ensures.due ∙ ap (λ f. due_step f c.args.order) c.deref.ensures.value in
     let listed : c.args.order < orders file = omega (arith, c.orders.ensures.value, labels_length file) in
     let none = eq-eqb (due_step file c.args.order) 0 (sym step ∙ c.if-step-eq0.true) in
     record {
@@ -40,7 +40,7 @@ returns-then-step-eq0 c =
 pub returns-else-step-eq0 : goal.returns-else-step-eq0
 returns-else-step-eq0 c =
     let file = file_of c.args.self.now in
-    let step = c.order-record-step.ensures.due ∙ ap (λ f. due_step f c.args.order) c.deref.ensures.value in
+    let step = c.order_record-step.ensures.due ∙ ap (λ f. due_step f c.args.order) c.deref.ensures.value in
     let listed : c.args.order < orders file = omega (arith, c.orders.ensures.value, labels_length file) in
     let some = ne_eqb (due_step file c.args.order) 0 (λ e. c.if-step-eq0.false (step ∙ e)) in
     record {

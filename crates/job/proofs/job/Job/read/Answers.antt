@@ -5,17 +5,17 @@ use Rattle.jobfile.specs.Checks.{checks}
 use Rattle.job.proofs.Readings.{accepts_well, reading_accepts, refusal}
 use Rattle.job.proofs.job.Job.read.Goals as goal
 
-pub returns-in-err-check : goal.returns-in-err-check
-returns-in-err-check c =
+pub returns-in_err-check : goal.returns-in_err-check
+returns-in_err-check c =
     let file = vec_items c.args.file in
-    let p = err_from_is_err_and c.from-residual.result c.from-residual.ensures.1 in
+    let p = err_from_is_err_and c.from_residual.result c.from_residual.ensures.1 in
     let same = ap (λ f. verdict (checks f)) c.deref.ensures.value in
-    let q = refusal file c.from-residual.result _ (p.1 ∙ ap Err p.2) (sym same ∙ sym c.in-err-check.ensures.value) in
+    let q = refusal file c.from_residual.result _ (p.1 ∙ ap Err p.2) (sym same ∙ sym c.in_err-check.ensures.value) in
     record { value = q.0; file = q.1; accepts = q.2; refuses = q.3 }
 
 pub returns : goal.returns
 returns c =
     let file = vec_items c.args.file in
     let same = ap (λ f. verdict (checks f)) c.deref.ensures.value in
-    let passed = sym same ∙ sym c.in-ok-check.ensures.value in
+    let passed = sym same ∙ sym c.in_ok-check.ensures.value in
     record { value = sym (reading_accepts file passed); file = refl; accepts = accepts_well file passed; refuses = tt }

@@ -45,7 +45,7 @@ returns c =
       latest = subst (IsLast a s) (sym lastly) (is_last a s);
     }
 
-pub invariant-of-result : goal.invariant-of-result
-invariant-of-result c =
+pub invariant_of-result : goal.invariant_of-result
+invariant_of-result c =
     let a : ℕ → Bool = serving (rows_of c.args.rows.now) c.args.order in
-    (omega (arith, c.loop-i.invariant.0, first_past a (take c.loop-i.i c.args.sequence.now)), tt)
+    record { counted = omega (arith, c.loop-i.invariant.0, first_past a (take c.loop-i.i c.args.sequence.now)) }

@@ -10,8 +10,8 @@ loop-sheet-init g c =
     walk_starts (g.O.Objective.ops question.objective) (g.R.Rule.asks question.rule) (g.O.Objective.means c.start-value.result)
     c.args.list.now c.start-value.ensures.value
 
-pub returns-in-default : goal.returns-in-default
-returns-in-default g c =
+pub returns-in_default : goal.returns-in_default
+returns-in_default g c =
     let question = c.args.self.now in
     record {
       value =
@@ -19,7 +19,7 @@ returns-in-default g c =
           (c.loop-sheet.invariant
           ∙ walk_stops (g.O.Objective.ops question.objective) (g.R.Rule.asks question.rule) (g.O.Objective.means c.loop-sheet.value)
           c.loop-sheet.done.bits c.args.list.now c.loop-sheet.sheet-index c.loop-sheet-test.true
-          (sym c.ask.ensures.answer ∙ c.in-default.is));
+          (sym c.ask.ensures.answer ∙ c.in_default.is));
     }
 
 pub loop-sheet-preserved : goal.loop-sheet-preserved

@@ -12,13 +12,13 @@ pub loop-done-preserved : goal.loop-done-preserved
 loop-done-preserved c =
     let overdue = c.loop-done.overdue in
     let done = c.loop-done.done in
-    let orders = c.due-before.result in
+    let orders = c.due_before.result in
     let whole = c.loop-done.invariant.0 in (
       length-set overdue c.from.result orders ∙ whole,
       λ t h j.
           ap (λ i. has (get_or (map members (set overdue i orders)) t 0) j) c.from.ensures
           ∙ entry_more (content_of c.args.job.now).dues overdue done orders (omega (arith, whole, c.loop-done-test.true))
-          c.loop-done.invariant.1 c.due-before.ensures.value t h j,
+          c.loop-done.invariant.1 c.due_before.ensures.value t h j,
     )
 
 pub returns : goal.returns

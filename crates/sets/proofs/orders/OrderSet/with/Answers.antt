@@ -3,15 +3,15 @@ use Rattle.sets.specs.Bits.{has}
 use Rattle.sets.proofs.Widths.{added, added_fits, has-with_in}
 use Rattle.sets.proofs.orders.OrderSet.with.Goals as goal
 
-pub overflow-add-result : goal.overflow-add-result
-overflow-add-result c =
+pub overflow_add-result : goal.overflow_add-result
+overflow_add-result c =
     let small : c.args.self.bits < 2 ^ 64 = omega arith in
     record { fits = added_fits 64 c.args.self.bits c.args.order small (sym c.if-has.ensures.value) c.if-order-ge-ROOM.false }
 
-pub invariant-of-result : goal.invariant-of-result
-invariant-of-result c =
+pub invariant_of-result : goal.invariant_of-result
+invariant_of-result c =
     let small : c.args.self.bits < 2 ^ 64 = omega arith in
-    (added_fits 64 c.args.self.bits c.args.order small (sym c.if-has.ensures.value) c.if-order-ge-ROOM.false, tt)
+    record { fits = added_fits 64 c.args.self.bits c.args.order small (sym c.if-has.ensures.value) c.if-order-ge-ROOM.false }
 
 pub returns : goal.returns
 returns c =

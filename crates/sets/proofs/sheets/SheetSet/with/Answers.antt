@@ -3,8 +3,8 @@ use Rattle.sets.specs.Bits.{has}
 use Rattle.sets.proofs.Widths.{added, added_fits, has-with_in}
 use Rattle.sets.proofs.sheets.SheetSet.with.Goals as goal
 
-pub overflow-add-result : goal.overflow-add-result
-overflow-add-result c =
+pub overflow_add-result : goal.overflow_add-result
+overflow_add-result c =
     let small : c.args.self.bits < 2 ^ 32 = omega arith in
     record { fits = added_fits 32 c.args.self.bits c.args.sheet small (sym c.if-has.ensures.value) c.if-sheet-ge-ROOM.false }
 

@@ -4,13 +4,13 @@ use Rattle.sets.proofs.Bits.{has-without}
 use Rattle.sets.proofs.Widths.{member_below, taken, taken_fits}
 use Rattle.sets.proofs.sheets.SheetSet.without.Goals as goal
 
-pub overflow-shl-result : goal.overflow-shl-result
-overflow-shl-result c =
+pub overflow_shl-result : goal.overflow_shl-result
+overflow_shl-result c =
     let small : c.args.self.bits < 2 ^ 32 = omega arith in
     member_below 32 c.args.self.bits c.args.sheet small (sym c.if-not-has.ensures.value)
 
-pub overflow-sub-result : goal.overflow-sub-result
-overflow-sub-result c =
+pub overflow_sub-result : goal.overflow_sub-result
+overflow_sub-result c =
     let small : c.args.self.bits < 2 ^ 32 = omega arith in
     taken_fits 32 c.args.self.bits c.args.sheet small (sym c.if-not-has.ensures.value)
 
