@@ -1,7 +1,7 @@
-#![tactic(auto)]
-
 // Tests of what sequences cost: lists of sheets as a table, each measured and valued by every question. Beside them, tests of
 // rules and objectives at their ends.
+#![tactic(auto)]
+
 #[cfg(test)]
 mod asked_rules;
 #[cfg(test)]

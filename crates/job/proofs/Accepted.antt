@@ -4,7 +4,7 @@ use Rattle.std.proofs.lemmas.List.FromFn.{get_or-map-range_with_len, length-map-
 use Rattle.std.proofs.ByRecursion.{All-append}
 use Rattle.std.proofs.lemmas.List.{length-take, length-drop}
 use Rattle.std.proofs.lemmas.Bool.{and_from, and_parts, eqb-true, eq-eqb, leb-true, le-leb}
-use Rattle.std.specs.List.{AllByRecursion as All}
+use Rattle.std.specs.List.{AllByRecursion as Each}
 use Rattle.sets.specs.Bits.{has, AllBelow}
 use Rattle.sets.proofs.Bits.{below_decides}
 use Rattle.jobfile.specs.Check.{in_turn, verdict}
@@ -65,24 +65,24 @@ module _ (file : List ℕ) where
   )
 
   abbrev Parts : Type 0
-  Parts = All Holds (map in_file (file_checks file)) × ((k : ℕ) → k < sheets file → All Holds (sheet_checks file k)) × ((k : ℕ) → k < orders file → All Holds (order_checks file k))
+  Parts = Each Holds (map in_file (file_checks file)) × ((k : ℕ) → k < sheets file → Each Holds (sheet_checks file k)) × ((k : ℕ) → k < orders file → Each Holds (order_checks file k))
 
   -- the checks of the file, of each sheet and of each order
-  parts : All Holds (checks file) → Parts
+  parts : Each Holds (checks file) → Parts
   parts h =
       let a = all_split Holds (map in_file (file_checks file)) (in_turn (sheet_checks file) 0 (sheets file) ++ in_turn (order_checks file) 0 (orders file)) h in
       let b = all_split Holds (in_turn (sheet_checks file) 0 (sheets file)) (in_turn (order_checks file) 0 (orders file)) a.1 in
       (a.0, turn_each (sheet_checks file) (sheets file) b.0, turn_each (order_checks file) (orders file) b.1)
 
   -- from the checks to the conditions
-  module _ (all_hold : All Holds (checks file)) where
-    f : All Holds (map in_file (file_checks file))
+  module _ (all_hold : Each Holds (checks file)) where
+    f : Each Holds (map in_file (file_checks file))
     f = (parts all_hold).0
 
-    of_sheet : (k : ℕ) → k < sheets file → All Holds (sheet_checks file k)
+    of_sheet : (k : ℕ) → k < sheets file → Each Holds (sheet_checks file k)
     of_sheet = (parts all_hold).1
 
-    of_order : (k : ℕ) → k < orders file → All Holds (order_checks file k)
+    of_order : (k : ℕ) → k < orders file → Each Holds (order_checks file k)
     of_order = (parts all_hold).2
 
     -- the length of a label, and that it lies inside
@@ -124,12 +124,12 @@ module _ (file : List ℕ) where
           few_orders = omega (arith, labels_length, m.1);
           busy = all_counted Busy (row file) (sheets file) (λ k h. (busy_decides (row file k)).0 (of_sheet k h).0);
           known =
-              subst (λ bound. All (λ r. AllBelow r bound) (content file).rows) (sym labels_length)
+              subst (λ bound. Each (λ r. AllBelow r bound) (content file).rows) (sym labels_length)
               (all_counted (λ r. AllBelow r (orders file)) (row file) (sheets file)
               (λ k h. (below_decides (row file k) (orders file)).0 (of_sheet k h).1.0));
           served = λ order h. (served_decides order).0 (of_order order (subst (λ bound. order < bound) labels_length h)).0;
           in_time =
-              subst (λ steps. All (Due steps) (content file).dues) (sym rows_length)
+              subst (λ steps. Each (Due steps) (content file).dues) (sym rows_length)
               (all_counted (Due (sheets file)) (due file) (orders file) (λ k h. (due_decides file k (sheets file)).0 (of_order k h).1.0));
           labelled = all_counted Label (label file) (orders file) label_holds;
           distinct =
@@ -142,18 +142,18 @@ module _ (file : List ℕ) where
 
   -- from the conditions to the checks
   module _ (w : WellFormed file) where
-    back_sheet : (k : ℕ) → k < sheets file → All Holds (sheet_checks file k)
+    back_sheet : (k : ℕ) → k < sheets file → Each Holds (sheet_checks file k)
     back_sheet k h = (
       (busy_decides (row file k)).1 (each_counted Busy (row file) (sheets file) w.sound.busy k h),
       (
         (below_decides (row file k) (orders file)).1
             (each_counted (λ r. AllBelow r (orders file)) (row file) (sheets file)
-            (subst (λ bound. All (λ r. AllBelow r bound) (content file).rows) labels_length w.sound.known) k h),
+            (subst (λ bound. Each (λ r. AllBelow r bound) (content file).rows) labels_length w.sound.known) k h),
         tt,
       ),
     )
 
-    back_order : (k : ℕ) → k < orders file → All Holds (order_checks file k)
+    back_order : (k : ℕ) → k < orders file → Each Holds (order_checks file k)
     back_order k h =
         let listed = subst (λ bound. k < bound) (sym labels_length) h in
         let good = each_counted Label (label file) (orders file) w.sound.labelled k h in
@@ -163,7 +163,7 @@ module _ (file : List ℕ) where
           (
             (due_decides file k (sheets file)).1
                 (each_counted (Due (sheets file)) (due file) (orders file)
-                (subst (λ steps. All (Due steps) (content file).dues) rows_length w.sound.in_time) k h),
+                (subst (λ steps. Each (Due steps) (content file).dues) rows_length w.sound.in_time) k h),
             (
               and_from (between 1 most_label_bytes (label_bytes file k)) (inside file (label_at file k) (label_bytes file k))
                   ((between_decides 1 most_label_bytes (label_bytes file k)).1
@@ -181,7 +181,7 @@ module _ (file : List ℕ) where
           ),
         )
 
-    back_file : All Holds (map in_file (file_checks file))
+    back_file : Each Holds (map in_file (file_checks file))
     back_file =
         let n = (between_decides 1 most_sheets (sheets file)).1 (omega (arith, rows_length, w.sound.some_sheet), omega (arith, rows_length, w.sound.few_sheets)) in
         let m = (between_decides 1 most_orders (orders file)).1 (omega (arith, labels_length, w.sound.some_order), omega (arith, labels_length, w.sound.few_orders)) in (

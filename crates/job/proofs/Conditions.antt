@@ -2,7 +2,7 @@
 use Rattle.std.proofs.Common.{◌≡◌, ℕ, zero, suc, ◌+◌, ◌<◌, ◌≤◌, Bool, true, false, cond, not, eqb, leb, List, [], ◌∷◌, length, Some, None, Decides, sym, refl, subst, ⊎_elim, arith}
 use Rattle.std.proofs.lemmas.Slice.Eq.{bytes_eq-Decides}
 use Rattle.std.proofs.lemmas.Bool.{and_from, and_parts, both_ways, cases_Bool, cond-true, cond-false, eqb-true, eqb-false, leb-true, le-leb, not-true, not_from_false, or_cases}
-use Rattle.std.specs.List.{AllByRecursion as All}
+use Rattle.std.specs.List.{AllByRecursion as Each}
 use Rattle.std.specs.Str.{bytes_eq}
 use Rattle.sets.specs.Bits.{has}
 use Rattle.sets.proofs.Bits.{below_pow, empty_decides, has_on, member_from}
@@ -70,7 +70,7 @@ due_decides file order steps = decides (due_step file order)
         ))
         (cases_Bool (eqb d 0))
 
-pub printed_decides : (bytes : List ℕ) → Decides (all printable bytes) (All (λ byte. (33 ≤ byte) × (byte ≤ 126)) bytes)
+pub printed_decides : (bytes : List ℕ) → Decides (all printable bytes) (Each (λ byte. (33 ≤ byte) × (byte ≤ 126)) bytes)
 printed_decides [] = ((λ e. tt), (λ h. refl))
 printed_decides (byte ∷ bytes) =
     let rest = printed_decides bytes in

@@ -1,6 +1,6 @@
 -- What a job file has to be, each condition on its own.
 use Rattle.std.specs.Prelude.{◌≡◌, ℕ, ◌+◌, ◌*◌, ◌<◌, ◌≤◌, true, List, [], length, Some, None, Option, ◌≢◌, slice_index, slice_index_or}
-use Rattle.std.specs.List.{AllByRecursion as All}
+use Rattle.std.specs.List.{AllByRecursion as Each}
 use Rattle.sets.specs.Bits.{has, AllBelow}
 use Rattle.job.specs.Content.{Content, content}
 use Rattle.jobfile.specs.Edition.{header_bytes, row_bytes, record_bytes, most_sheets, most_orders, most_label_bytes}
@@ -39,7 +39,7 @@ Due steps (Some step) = (1 ≤ step) × (step ≤ steps)
 pub record Label (bytes : List ℕ) : Type 0 where
   pub some_byte : 1 ≤ length bytes
   pub few_bytes : length bytes ≤ most_label_bytes
-  pub printed : All (λ byte. (33 ≤ byte) × (byte ≤ 126)) bytes
+  pub printed : Each (λ byte. (33 ≤ byte) × (byte ≤ 126)) bytes
 
 -- what the content of a file has to satisfy
 pub record Sound (c : Content) : Type 0 where
@@ -47,11 +47,11 @@ pub record Sound (c : Content) : Type 0 where
   pub few_sheets : length c.rows ≤ most_sheets
   pub some_order : 1 ≤ length c.labels
   pub few_orders : length c.labels ≤ most_orders
-  pub busy : All Busy c.rows
-  pub known : All (λ row. AllBelow row (length c.labels)) c.rows
+  pub busy : Each Busy c.rows
+  pub known : Each (λ row. AllBelow row (length c.labels)) c.rows
   pub served : (order : ℕ) → order < length c.labels → Served c.rows order
-  pub in_time : All (Due (length c.rows)) c.dues
-  pub labelled : All Label c.labels
+  pub in_time : Each (Due (length c.rows)) c.dues
+  pub labelled : Each Label c.labels
   pub distinct : (i j : ℕ) → i < j → j < length c.labels → slice_index_or c.labels i [] ≢ slice_index_or c.labels j []
 
 pub record WellFormed (file : List ℕ) : Type 0 where

@@ -1,6 +1,6 @@
 -- A list of checks, and the verdict that it comes to.
 use Rattle.std.specs.Prelude.{◌≡◌, ℕ, zero, suc, Bool, true, false, cond, List, [], ◌∷◌, ◌++◌, Ok, Err, Result}
-use Rattle.std.specs.List.{AllByRecursion as All}
+use Rattle.std.specs.List.{AllByRecursion as Each}
 
 -- whether the check holds, and the fault where it does not
 pub record Check (F : Type 0) : Type 0 where
@@ -25,4 +25,4 @@ pub record FirstFault {F : Type 0} (checks : List (Check F)) (fault : F) : Type 
   pub before : List (Check F)
   pub after : List (Check F)
   pub stands : checks ≡ before ++ (check false fault ∷ after)
-  pub earlier : All (λ c. c.holds ≡ true) before
+  pub earlier : Each (λ c. c.holds ≡ true) before

@@ -1,6 +1,6 @@
+// Tests of the reader: a table of files with what each is answered, and what the worked job says.
 #![tactic(auto)]
 
-// Tests of the reader: a table of files with what each is answered, and what the worked job says.
 #[cfg(test)]
 mod cases;
 

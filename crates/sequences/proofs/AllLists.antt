@@ -1,7 +1,7 @@
 -- All lists of so many sheets: each list of sheets of that length once.
 use Rattle.std.proofs.Common.{◌≡◌, ℕ, zero, suc, ◌+◌, ◌<◌, ◌≤◌, List, [], ◌∷◌, map, length, sym, refl, ap, ◌∙◌, subst, inl, inr, ⊎_elim, arith}
 use Rattle.std.proofs.lemmas.Bool.{cases_eq}
-use Rattle.std.specs.List.{range_with_len as counting, flat_map, AllByRecursion as All}
+use Rattle.std.specs.List.{range_with_len as counting, flat_map, AllByRecursion as Each}
 use Rattle.sequences.specs.Joins.{lists_of}
 use Rattle.sequences.proofs.Listings.{Distinct, In, distinct_append, in_append, in_left, in_right}
 
@@ -72,7 +72,7 @@ module _ (L : List (List ℕ)) where
       let other = joined_in t ps b in
       h.0 (subst (λ y. In y ps) (sym (heads x other.0 one.0 other.1 (sym one.1 ∙ other.2))) other.3))
 
-pub in_lists : (n : ℕ) (s : List ℕ) → All (λ p. p < n) s → In s (lists_of n (length s))
+pub in_lists : (n : ℕ) (s : List ℕ) → Each (λ p. p < n) s → In s (lists_of n (length s))
 in_lists n [] h = inl refl
 in_lists n (p ∷ s) h =
     in_joined (lists_of n (length s)) p s (counting 0 n) (in_counting p 0 n (omega arith) (let l = h.0 in omega arith)) (in_lists n s h.1)

@@ -7,7 +7,7 @@ use Rattle.std.proofs.lemmas.List.{get_or_past}
 use Rattle.std.proofs.lemmas.List.Sums.{sum_by-cons, sum_by-append}
 use Rattle.std.proofs.lemmas.Bool.{and_from, and_right, both_ways, cases_Bool, cases_lt, eq-eqb, eqb-true, le-ltb, lt-ltb, ltb-true, or_cases, or_left, or_right}
 use Rattle.std.proofs.lemmas.Bool.Decides.{same_from_decides, nat_tests}
-use Rattle.std.specs.List.{range_with_len, AllByRecursion as All}
+use Rattle.std.specs.List.{range_with_len, AllByRecursion as Each}
 use Rattle.sets.proofs.Bits.{bit, has_high, has_off, has_on, has-with, below_decides, below_from_bits, off_from_has, on_from_has, ones_counted}
 use Rattle.sets.proofs.Reached.{reach_serves}
 use Rattle.sets.specs.Bits.{has, with, AllBelow}
@@ -48,7 +48,7 @@ any_from a (x ∷ xs) q e h =
     (or_cases (eqb q x) (any (eqb q) xs) e)
 
 -- a listed sheet is one of those that all are
-pub any_all : (P : ℕ → Type 0) (xs : List ℕ) (q : ℕ) → All P xs → any (eqb q) xs ≡ true → P q
+pub any_all : (P : ℕ → Type 0) (xs : List ℕ) (q : ℕ) → Each P xs → any (eqb q) xs ≡ true → P q
 any_all P [] q h e = absurd (both_ways false refl e)
 any_all P (x ∷ xs) q h e =
     ⊎_elim (λ here. subst P (sym (eqb-true q x here)) h.0) (λ there. any_all P xs q h.1 there) (or_cases (eqb q x) (any (eqb q) xs) e)
@@ -92,7 +92,7 @@ pow_pos zero = omega arith
 pow_pos (suc k) = omega (arith, pow-succ' 2 k, pow_pos k)
 
 -- rows without an order of m or above, as numbers
-pub rows_below : (rows : List ℕ) (m : ℕ) → All (λ row. AllBelow row m) rows → (p : ℕ) → get_or rows p 0 < 2 ^ m
+pub rows_below : (rows : List ℕ) (m : ℕ) → Each (λ row. AllBelow row m) rows → (p : ℕ) → get_or rows p 0 < 2 ^ m
 rows_below [] m h p = pow_pos m
 rows_below (row ∷ rows) m h zero = ltb-true row (2 ^ m) ((below_decides row m).1 h.0)
 rows_below (row ∷ rows) m h (suc p) = rows_below rows m h.1 p
@@ -120,13 +120,13 @@ has-undone n S q small =
         has_on (undone n S) q (omega (arith, undone-bit n S q small inside, off_from_has S q e)) ∙ sym (and_from (ltb q n) true (lt-ltb q n inside) refl)
 
 module _ (n : ℕ) (whole before after : List ℕ) (parts : before ++ after ≡ whole) (is : Sequence n whole) where
-  parts_sheets : All (λ q. q < n) (before ++ after)
-  parts_sheets = subst (All (λ q. q < n)) (sym parts) is.sheets
+  parts_sheets : Each (λ q. q < n) (before ++ after)
+  parts_sheets = subst (Each (λ q. q < n)) (sym parts) is.sheets
 
-  pub before_sheets : All (λ q. q < n) before
+  pub before_sheets : Each (λ q. q < n) before
   before_sheets = (all_parts (λ q. q < n) before after parts_sheets).0
 
-  pub after_sheets : All (λ q. q < n) after
+  pub after_sheets : Each (λ q. q < n) after
   after_sheets = (all_parts (λ q. q < n) before after parts_sheets).1
 
   -- each sheet is named once, before or after

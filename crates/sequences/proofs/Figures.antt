@@ -4,7 +4,7 @@ use mathlib.Core.Path.{fun_ext}
 use Rattle.std.proofs.lemmas.List.{length_push}
 use Rattle.std.proofs.lemmas.List.Sums.{sum_by-cons}
 use Rattle.std.proofs.lemmas.Bool.{and_from, cond-true, eq-eqb, le-ltb, lt-ltb, not_from_false}
-use Rattle.std.specs.List.{range_with_len, AllByRecursion as All}
+use Rattle.std.specs.List.{range_with_len, AllByRecursion as Each}
 use Rattle.sets.proofs.Bits.{common_counted, has_high}
 use Rattle.sets.proofs.Reached.{reach_below_lem}
 use Rattle.sets.specs.Bits.{has, with, AllBelow}
@@ -49,7 +49,7 @@ module _ (n : ℕ) (figure : ℕ → ℕ → ℕ) (g : ℕ → ℕ) (whole : Lis
 
 module _ (rows : List ℕ) (whole : List ℕ) (is : Sequence (length rows) whole) where
   -- the figure of Open in a step is the number of orders open in it
-  pub open_figures : (m : ℕ) → All (λ row. AllBelow row m) rows
+  pub open_figures : (m : ℕ) → Each (λ row. AllBelow row m) rows
       → figures (open_rule rows) whole ≡ Some (map (open_orders (serving rows) m whole) (steps whole))
   open_figures m known =
       stepping-figures (length rows) (open_figure rows) (open_orders (serving rows) m whole) whole is agrees

@@ -3,7 +3,7 @@ use Rattle.std.proofs.Common.{◌≡◌, ℕ, ◌<◌, Bool, eqb, ltb, List, get
 use Rattle.std.proofs.lemmas.List.FromFn.{get_or-range_with_len, length-range_with_len}
 use Rattle.std.proofs.ByRecursion.{All-get_or, Decides-by_and}
 use Rattle.std.proofs.lemmas.Bool.Decides.{Decides-and, Decides-eqb, Decides-like, Decides-ltb}
-use Rattle.std.specs.List.{range_with_len, list_all, AllByRecursion as All}
+use Rattle.std.specs.List.{range_with_len, list_all, AllByRecursion as Each}
 use Rattle.sequences.specs.Sequences.{Sequence, is_sequence, times}
 use Rattle.sequences.proofs.Sums.{each_below}
 
@@ -14,7 +14,7 @@ below_decides test P each n =
     Decides-like (list_all test (range_with_len 0 n)) one (each_below n)
     (Decides-by_and test P (list_all test) each refl (λ _ _. refl) (range_with_len 0 n))
   where
-    one : All P (range_with_len 0 n) → (q : ℕ) → q < n → P q
+    one : Each P (range_with_len 0 n) → (q : ℕ) → q < n → P q
     one h q l =
         subst P (let e : get_or (range_with_len 0 n) q 0 ≡ q = omega (arith, get_or-range_with_len 0 n q 0 l) in e)
         (All-get_or P (range_with_len 0 n) q 0 (omega (arith, length-range_with_len 0 n)) h)

@@ -4,15 +4,15 @@ use Rattle.std.proofs.lemmas.List.FromFn.{get_or-range_with_len, length-range_wi
 use Rattle.std.proofs.ByRecursion.{All-from_get_or, All-weaker}
 use Rattle.std.proofs.lemmas.List.Sums.{sum_by-cons}
 use Rattle.std.proofs.lemmas.Bool.Decides.{nat_tests}
-use Rattle.std.specs.List.{range_with_len, AllByRecursion as All}
+use Rattle.std.specs.List.{range_with_len, AllByRecursion as Each}
 
 -- what holds of everything holds of each element
-pub always : {X : Type 0} {P : X → Type 0} → ((x : X) → P x) → (xs : List X) → All P xs
+pub always : {X : Type 0} {P : X → Type 0} → ((x : X) → P x) → (xs : List X) → Each P xs
 always h [] = tt
 always h (x ∷ xs) = (h x, always h xs)
 
 -- like terms have like sums
-pub sum_like : {X : Type 0} (f g : X → ℕ) (xs : List X) → All (λ x. f x ≡ g x) xs → sum_by f xs ≡ sum_by g xs
+pub sum_like : {X : Type 0} (f g : X → ℕ) (xs : List X) → Each (λ x. f x ≡ g x) xs → sum_by f xs ≡ sum_by g xs
 sum_like f g [] h = refl
 sum_like f g (x ∷ xs) h =
     sum_by-cons f x xs ∙ (ap₂ (λ a b. a + b) h.0 (sum_like f g xs h.1) ∙ sym (sum_by-cons g x xs))
@@ -56,13 +56,13 @@ interval a b (suc L) c =
     one_more a b L c = grind (arith, nat_tests)
 
 -- what holds of each number below n holds of all that are counted
-pub each_below : {P : ℕ → Type 0} (n : ℕ) → ((q : ℕ) → q < n → P q) → All P (range_with_len 0 n)
+pub each_below : {P : ℕ → Type 0} (n : ℕ) → ((q : ℕ) → q < n → P q) → Each P (range_with_len 0 n)
 each_below {P} n h =
     All-from_get_or P (range_with_len 0 n) 0 (λ i l.
     let small : i < n = omega (arith, length-range_with_len 0 n) in
     subst P (let e : i ≡ get_or (range_with_len 0 n) i 0 = omega (arith, get_or-range_with_len 0 n i 0 small) in e) (h i small))
 
-pub all_parts : {X : Type 0} (P : X → Type 0) (xs ys : List X) → All P (xs ++ ys) → All P xs × All P ys
+pub all_parts : {X : Type 0} (P : X → Type 0) (xs ys : List X) → Each P (xs ++ ys) → Each P xs × Each P ys
 all_parts P [] ys h = (tt, h)
 all_parts P (x ∷ xs) ys h = let r = all_parts P xs ys h.1 in ((h.0, r.0), r.1)
 
@@ -76,7 +76,7 @@ one_counted n x l =
     same q = grind (arith, nat_tests)
 
 -- over the numbers below n, how often each is listed adds up to the length of the list
-pub counted_once : (n : ℕ) (xs : List ℕ) → All (λ x. x < n) xs → sum_by (λ q. count_by (eqb q) xs) (range_with_len 0 n) ≡ length xs
+pub counted_once : (n : ℕ) (xs : List ℕ) → Each (λ x. x < n) xs → sum_by (λ q. count_by (eqb q) xs) (range_with_len 0 n) ≡ length xs
 counted_once n xs h =
     sum_swap (λ q x. cond (eqb q x) 1 0) (range_with_len 0 n) xs
     ∙ (sum_like (λ x. count_by (λ q. eqb q x) (range_with_len 0 n)) (λ _. 1) xs (All-weaker (λ x. x < n) (λ x. count_by (λ q. eqb q x) (range_with_len 0 n) ≡ 1) (one_counted n) xs h)
