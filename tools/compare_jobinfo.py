@@ -3,7 +3,7 @@
 
     tools/compare_jobinfo.py [FILES] [SEED]
 
-Run at the top of the repository after `rt check jobinfo`. It compares what is printed and the exit status,
+Run at the top of the repository after `rt run` in crates/jobinfo. It compares what is printed and the exit status,
 says how often each answer came, and ends with status 1 at the first file on which the two differ."""
 import collections
 import glob
@@ -13,7 +13,7 @@ import sys
 
 import jobs
 
-PROGRAM = "target/bin/jobinfo"
+PROGRAM = "crates/jobinfo/out/jobinfo"
 
 
 def generated(rng):

@@ -7,18 +7,19 @@ mod describe;
 use answer::answer;
 use std::io;
 use std::io::{Read, Write};
+use std::process::ExitCode;
 
 // What follows is ignored.
 const MOST_INPUT: u64 = 8192;
 
-fn main(rt: HostRuntime) -> io::Result<()> {
+fn main(rt: HostRuntime) -> io::Result<ExitCode> {
     let mut input = Vec::new(rt.alloc());
     rt.stdin().take(MOST_INPUT).read_to_end(&mut input)?;
     let printed = answer(rt.alloc(), input)?;
     rt.stdout().write_all(&printed.text)?;
     if printed.refused {
-        Err(io::Error::other("refused"))
+        Ok(ExitCode::FAILURE)
     } else {
-        Ok(())
+        Ok(ExitCode::SUCCESS)
     }
 }
