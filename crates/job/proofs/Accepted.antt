@@ -134,10 +134,10 @@ module _ (file : List ℕ) where
           labelled = all_counted Label (label file) (orders file) label_holds;
           distinct =
               λ i j before h.
-              let j-in : j < orders file = omega (arith, labels_length) in
+              let j_in : j < orders file = omega (arith, labels_length) in
               λ same.
-              (distinct_decides file j).0 (of_order j j-in).1.1.1.1.0 i before
-              (sym (label_at_lem i (omega arith)) ∙ (same ∙ label_at_lem j j-in));
+              (distinct_decides file j).0 (of_order j j_in).1.1.1.1.0 i before
+              (sym (label_at_lem i (omega arith)) ∙ (same ∙ label_at_lem j j_in));
         }
 
   -- from the conditions to the checks

@@ -61,7 +61,7 @@ due_decides file order steps = decides (due_step file order)
     decides d =
         ⊎_elim
         (λ none.
-        let zero-step : d ≡ 0 = eqb-true d 0 none in
+        let zero_step : d ≡ 0 = eqb-true d 0 none in
         ((λ e. subst (Due steps) (sym (cond-true (eqb d 0) None (Some d) none)) tt), (λ h. le-leb d steps (omega arith))))
         (λ some.
         let is = cond-false (eqb d 0) None (Some d) some in (

@@ -48,8 +48,8 @@ module _ (file : List ℕ) where
   refusal (Ok job) fault e failed = absurd (both_ways false refl (sym (ap is_ok e)))
   refusal (Err f) fault e failed =
       let same : f ≡ fault = cc in
-      let failed-so : verdict (checks file) ≡ Err f = failed ∙ ap Err (sym same) in
-      (sym (reading_refuses f failed-so), tt, refuses_other f failed-so, first_fault (checks file) f failed-so)
+      let failed_so : verdict (checks file) ≡ Err f = failed ∙ ap Err (sym same) in
+      (sym (reading_refuses f failed_so), tt, refuses_other f failed_so, first_fault (checks file) f failed_so)
 
 -- what every job's content satisfies
 pub job_sound : (job : Job) → Sound (content_of job)

@@ -41,10 +41,10 @@ module _ {M : Type 0} (o : Ops M) (rule : Meaning) where
     pub walk_on : (n : ℕ) → Keeps n rule → (f : ℕ) (w : M) (T : ℕ)
         → rule S (get_or s i 0) ≡ Some f → w ≡ o.extend v f → T ≡ with_in 32 S (get_or s i 0)
         → walked o v (figures_from rule S (drop i s)) ≡ walked o w (figures_from rule T (drop (i + 1) s))
-    walk_on n keeps f w T e value-is done-is =
+    walk_on n keeps f w T e value_is done_is =
         next
         ∙ (ap (λ x. walked o v (follow x (figures_from rule (with S (get_or s i 0)) (drop (i + 1) s)))) e
         ∙ (walked_on v f (figures_from rule (with S (get_or s i 0)) (drop (i + 1) s))
-        ∙ (ap (λ x. walked o x (figures_from rule (with S (get_or s i 0)) (drop (i + 1) s))) (sym value-is)
+        ∙ (ap (λ x. walked o x (figures_from rule (with S (get_or s i 0)) (drop (i + 1) s))) (sym value_is)
         ∙ ap (λ x. walked o w (figures_from rule x (drop (i + 1) s)))
-        (sym (done-is ∙ cond-true (ltb (get_or s i 0) 32) (with S (get_or s i 0)) S (lt-ltb (get_or s i 0) 32 (known n keeps f e)))))))
+        (sym (done_is ∙ cond-true (ltb (get_or s i 0) 32) (with S (get_or s i 0)) S (lt-ltb (get_or s i 0) 32 (known n keeps f e)))))))

@@ -39,12 +39,12 @@ entry_more dues overdue k orders fits entries here t h j =
 pub answered : (rows : List ℕ) (overdue : List OrderSet) (S p i U figure : ℕ) (orders left : OrderSet) → true ≡ is_next (length rows) S p
     → i ≡ ones S → i < length overdue → figure ≡ ones (bit_and (members (get_or overdue i orders)) (members left))
     → members left ≡ reach rows U → U ≡ undone (length rows) S → Some figure ≡ overdue_rule rows overdue S p
-answered rows overdue S p i U figure orders left next i-is listed figure-is left_is rest-is =
+answered rows overdue S p i U figure orders left next i_is listed figure_is left_is rest_is =
     let entry = get_or-map members overdue i orders 0 listed in
     let here = cond-true (is_next (length rows) S p) (Some (overdue_figure rows overdue S p)) None (sym next) in
     ap Some
-    (figure-is
-    ∙ ap₂ (λ x y. ones (bit_and x y)) (sym entry ∙ ap (λ t. get_or (map members overdue) t 0) i-is) (left_is ∙ ap (reach rows) rest-is))
+    (figure_is
+    ∙ ap₂ (λ x y. ones (bit_and x y)) (sym entry ∙ ap (λ t. get_or (map members overdue) t 0) i_is) (left_is ∙ ap (reach rows) rest_is))
     ∙ sym here
 
 module _ (rows : List ℕ) (dues : List (Option ℕ)) (overdue : List OrderSet) where

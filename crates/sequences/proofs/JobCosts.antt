@@ -21,8 +21,8 @@ module _ (job : Content) (sound : Sound job) (s : List ℕ) (is : SequenceOf job
   -- a job has only so many steps, and so many orders in each
   few : (x : ℕ) → x ≤ length s * length job.labels → x ≤ most_sheets * most_orders
   few x l =
-      let steps-few : length s ≤ most_sheets = omega (arith, sequence_length (length job.rows) s is, sound.few_sheets) in
-      let all-few : length s * length job.labels ≤ most_sheets * most_orders = mul-le-mul steps-few sound.few_orders in
+      let steps_few : length s ≤ most_sheets = omega (arith, sequence_length (length job.rows) s is, sound.few_sheets) in
+      let all_few : length s * length job.labels ≤ most_sheets * most_orders = mul-le-mul steps_few sound.few_orders in
       omega arith
 
   pub spread_small : spread_of job s ≤ most_sheets * most_orders
