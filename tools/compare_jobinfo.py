@@ -4,7 +4,7 @@
     tools/compare_jobinfo.py [FILES] [SEED]
 
 Run at the top of the repository after `rt run` in crates/jobinfo. It compares what is printed and the exit status,
-says how often each answer came, and ends with status 1 at the first file on which the two differ."""
+wants standard error to stay empty, says how often each answer came, and ends with status 1 at the first file on which the two differ."""
 import collections
 import glob
 import random
@@ -51,9 +51,9 @@ def main():
     for data in files:
         text, status = jobs.info(data)
         run = subprocess.run([PROGRAM], input=data, capture_output=True)
-        if (run.stdout, run.returncode) != (text, status):
+        if (run.stdout, run.returncode, run.stderr) != (text, status, b""):
             print("differs on", data.hex())
-            print("jobinfo:", run.returncode, run.stdout[:200])
+            print("jobinfo:", run.returncode, run.stdout[:200], run.stderr[:200])
             print("second: ", status, text[:200])
             return 1
         seen[" ".join(text.decode().split()[:2]) if status else "accepted"] += 1
