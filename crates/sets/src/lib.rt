@@ -4,7 +4,8 @@
 pub mod orders;
 pub mod rows;
 pub mod sheets;
+mod word;
 
 pub use orders::OrderSet;
-pub use rows::Rows;
+pub use rows::{Rows, TooManySheets};
 pub use sheets::SheetSet;

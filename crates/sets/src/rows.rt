@@ -6,7 +6,7 @@ use crate::orders::OrderSet;
 mod making;
 mod reading;
 
-#[derive(Clone, Copy)]
+#[derive(Clone, Copy, Debug)]
 pub struct Rows {
     count: u8,
     // those from `count` on are not in use
@@ -15,3 +15,7 @@ pub struct Rows {
     ghost few: { count ≤ 16 },
     ghost whole: { length rows ≡ 16 },
 }
+
+// A job has no room for one sheet more.
+#[derive(Clone, Copy, Debug, PartialEq, Eq)]
+pub struct TooManySheets;

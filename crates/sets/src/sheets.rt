@@ -3,10 +3,12 @@ ghost use Rattle.sets.specs.Bits.{has, with_in, without, AllBelow};
 ghost use Rattle.std.specs.Prelude.{◌≡◌, ℕ, ◌^◌, ◌<◌, not, ◌&&◌, ◌||◌, Decides, count_by, ◌==◌, count_ones, nat_lt};
 ghost use Rattle.std.specs.List.{range_with_len};
 
+use crate::word;
+
 // How many sheets a set has room for.
 const ROOM: u8 = 32;
 
-#[derive(Clone, Copy)]
+#[derive(Clone, Copy, Debug, PartialEq, Eq)]
 pub struct SheetSet {
     pub bits: u32,
 }
@@ -15,7 +17,7 @@ impl SheetSet {
     pub fn has(self, sheet: u8) -> bool
         ensures value { result ≡ has self.bits sheet }
     {
-        sheet < ROOM && (self.bits >> sheet) % 2 == 1
+        word::has(u64::from(self.bits), u16::from(sheet))
     }
 
     // The set with the sheet in it. A sheet of 32 or above is in no set.
@@ -23,11 +25,11 @@ impl SheetSet {
         ensures value { result.bits ≡ with_in 32 self.bits sheet }
         ensures members { (p : ℕ) → has result.bits p ≡ (has self.bits p || (p == sheet && nat_lt sheet 32)) }
     {
-        if sheet >= ROOM || self.has(sheet) {
+        if sheet >= ROOM {
             return self;
         }
         SheetSet {
-            bits: self.bits + (1 << sheet),
+            bits: word::with(u64::from(self.bits), u16::from(sheet)) as u32,
         }
     }
 
@@ -56,6 +58,6 @@ impl SheetSet {
         ensures value { result ≡ nat_lt self.bits (2 ^ bound) }
         ensures members { Decides result (AllBelow self.bits bound) }
     {
-        bound >= ROOM || self.bits >> bound == 0
+        word::is_below(u64::from(self.bits), u16::from(bound))
     }
 }

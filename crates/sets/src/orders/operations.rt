@@ -6,6 +6,7 @@ ghost use Rattle.std.specs.Prelude.{◌≡◌, ℕ, ◌^◌, ◌<◌, ◌&&◌, 
 ghost use Rattle.std.specs.List.{range_with_len};
 
 use super::OrderSet;
+use crate::word;
 
 // How many orders a set has room for.
 const ROOM: u16 = 64;
@@ -22,9 +23,8 @@ impl OrderSet {
         ensures value { members result ≡ low_first (take room_bytes bytes.now) }
     {
         let mut word = [0; 8];
-        for i in 0..bytes.len().min(8) {
-            word[i] = bytes[i];
-        }
+        let size = bytes.len().min(word.len());
+        word[..size].copy_from_slice(&bytes[..size]);
         OrderSet {
             bits: u64::from_le_bytes(word),
         }
@@ -33,7 +33,7 @@ impl OrderSet {
     pub fn has(self, order: u16) -> bool
         ensures value { result ≡ has (members self) order }
     {
-        order < ROOM && (self.bits >> order) % 2 == 1
+        word::has(self.bits, order)
     }
 
     // The set with the order in it. An order for which there is no room is in no set.
@@ -41,11 +41,11 @@ impl OrderSet {
         ensures value { members result ≡ with_in room (members self) order }
         ensures members { (j : ℕ) → has (members result) j ≡ (has (members self) j || (j == order && nat_lt order room)) }
     {
-        if order >= ROOM || self.has(order) {
+        if order >= ROOM {
             return self;
         }
         OrderSet {
-            bits: self.bits + (1 << order),
+            bits: word::with(self.bits, order),
         }
     }
 
@@ -79,6 +79,6 @@ impl OrderSet {
         ensures value { result ≡ nat_lt (members self) (2 ^ bound) }
         ensures members { Decides result (AllBelow (members self) bound) }
     {
-        bound >= ROOM || self.bits >> bound == 0
+        word::is_below(self.bits, bound)
     }
 }

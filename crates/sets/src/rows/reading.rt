@@ -38,7 +38,7 @@ impl Rows {
         let mut reached = OrderSet::empty();
         for sheet in 0..self.count {
             if set.has(sheet) {
-                reached = reached.union(self.rows[sheet as usize]);
+                reached = reached.union(self.row(sheet));
             }
         }
         reached

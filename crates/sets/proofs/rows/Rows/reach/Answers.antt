@@ -4,7 +4,7 @@ use Rattle.sets.specs.Bits.{has}
 use Rattle.sets.specs.Orders.{members}
 use Rattle.sets.specs.Reach.{reach, reach_below, Serves}
 use Rattle.sets.specs.RowLists.{rows_of}
-use Rattle.sets.proofs.RowLists.{rows_length, rows_at}
+use Rattle.sets.proofs.RowLists.{rows_length}
 use Rattle.sets.proofs.Reached.{reach_passed, reach_serves, reach_taken}
 use Rattle.sets.proofs.rows.Rows.reach.Goals as goal
 use Rattle.sets.proofs.rows.Rows.reach.Goals.{then-has, else-has}
@@ -19,7 +19,7 @@ loop-sheet-preserved c =
       | then-has w ↦
           ap members w.reached-is
           ∙ (w.union-reached.ensures.value
-          ∙ (ap₂ bit_or inv (sym (rows_at c.args.self.now.rows c.args.self.now.count (omega arith) k _ c.loop-sheet-test.true))
+          ∙ (ap₂ bit_or inv w.row.ensures.value
           ∙ reach_taken rows S k (sym c.has.ensures.value ∙ w.if-has.true)))
       | else-has w ↦
           ap members w.reached-is ∙ (inv ∙ reach_passed rows S k (sym c.has.ensures.value ∙ w.if-has.false))

@@ -1,18 +1,13 @@
 use Rattle.std.proofs.Common.{◌^◌, ◌<◌, sym, ap, ◌∙◌, arith}
 use Rattle.sets.specs.Bits.{has}
 use Rattle.sets.proofs.Bits.{has-without}
-use Rattle.sets.proofs.Widths.{member_below, taken, taken_fits}
+use Rattle.sets.proofs.Widths.{member_below, taken}
 use Rattle.sets.proofs.sheets.SheetSet.without.Goals as goal
 
 pub overflow_shl-result : goal.overflow_shl-result
 overflow_shl-result c =
     let small : c.args.self.bits < 2 ^ 32 = omega arith in
     member_below 32 c.args.self.bits c.args.sheet small (sym c.if-not-has.ensures.value)
-
-pub overflow_sub-result : goal.overflow_sub-result
-overflow_sub-result c =
-    let small : c.args.self.bits < 2 ^ 32 = omega arith in
-    taken_fits 32 c.args.self.bits c.args.sheet small (sym c.if-not-has.ensures.value)
 
 pub returns : goal.returns
 returns c =
