@@ -1,17 +1,16 @@
 -- Each test of the checks decides its condition.
-use Rattle.std.proofs.Common.{◌≡◌, ℕ, zero, suc, ◌+◌, ◌<◌, ◌≤◌, Bool, true, false, cond, not, eqb, leb, List, [], ◌∷◌, length, Some, None, Decides, sym, refl, subst, ⊎_elim, arith}
+use Rattle.std.proofs.Common.{◌≡◌, ℕ, zero, suc, ◌+◌, ◌<◌, ◌≤◌, Bool, true, false, cond, not, eqb, leb, List, [], ◌∷◌, length, Some, None, Decides, sym, refl, ap, ◌∙◌, subst, ⊎_elim, arith}
 use Rattle.std.proofs.lemmas.Slice.Eq.{bytes_eq-Decides}
-use Rattle.std.proofs.lemmas.Bool.{and_from, and_parts, both_ways, cases_Bool, cond-true, cond-false, eqb-true, eqb-false, leb-true, le-leb, not-true, not_from_false, or_cases}
-use Rattle.std.specs.List.{AllByRecursion as Each}
+use Rattle.std.proofs.lemmas.Bool.{and_from, and_parts, both_ways, cases_Bool, cases_eq, cond-true, cond-false, eqb-true, eqb-false, leb-true, le-leb, not-true, not_from_false, or_cases, or_left, or_right}
+use Rattle.std.specs.List.{list_all, list_any, range_with_len, AllByRecursion as Each}
 use Rattle.std.specs.Str.{bytes_eq}
 use Rattle.sets.specs.Bits.{has}
 use Rattle.sets.proofs.Bits.{below_pow, empty_decides, has_on, member_from}
 use Rattle.job.specs.Content.{due}
 use Rattle.jobfile.specs.Edition.{header_bytes}
 use Rattle.jobfile.specs.Fields.{due_step, label}
-use Rattle.jobfile.specs.Tests.{all, any_below, between, inside, printable, taken}
+use Rattle.jobfile.specs.Tests.{between, inside, printable, taken}
 use Rattle.job.specs.WellFormed.{Busy, Due, Inside}
-use Rattle.jobfile.proofs.Loops.{any_found}
 
 pub between_decides : (low high n : ℕ) → Decides (between low high n) ((low ≤ n) × (n ≤ high))
 between_decides low high n = (
@@ -43,16 +42,28 @@ busy_decides row = (
       (cases_Bool (eqb row 0))),
 )
 
-pub any_decides : (test : ℕ → Bool) (n : ℕ) → Decides (any_below test n) ((k : ℕ) × (k < n) × (test k ≡ true))
-any_decides test n = (found n, (λ w. any_found test n w.0 w.1 w.2))
+-- some number below n passes the test
+pub any_decides : (test : ℕ → Bool) (n : ℕ) → Decides (list_any test (range_with_len 0 n)) ((k : ℕ) × (k < n) × (test k ≡ true))
+any_decides test n = (
+  (λ e. let w = found 0 n e in (w.0, omega (arith, w.2), w.3)),
+  (λ w. passes 0 n w.0 (omega arith) (omega (arith, w.1)) w.2),
+)
   where
-    found : (n : ℕ) → any_below test n ≡ true → (k : ℕ) × (k < n) × (test k ≡ true)
-    found zero e = absurd (both_ways false refl e)
-    found (suc n) e =
+    found : (a n : ℕ) → list_any test (range_with_len a n) ≡ true → (k : ℕ) × (a ≤ k) × (k < a + n) × (test k ≡ true)
+    found a zero e = absurd (both_ways false refl e)
+    found a (suc n) e =
         ⊎_elim
-        (λ before. let w = found n before in (w.0, omega (arith, w.1), w.2))
-        (λ here. (n, omega arith, here))
-        (or_cases (any_below test n) (test n) e)
+        (λ here. (a, omega arith, omega arith, here))
+        (λ later. let w = found (a + 1) n later in (w.0, omega (arith, w.1), omega (arith, w.2), w.3))
+        (or_cases (test a) (list_any test (range_with_len (a + 1) n)) e)
+
+    passes : (a n k : ℕ) → a ≤ k → k < a + n → test k ≡ true → list_any test (range_with_len a n) ≡ true
+    passes a zero k from below here = absurd (omega arith)
+    passes a (suc n) k from below here =
+        ⊎_elim
+        (λ (e : k ≡ a). or_left (test a) (list_any test (range_with_len (a + 1) n)) (sym (ap test e) ∙ here))
+        (λ ne. or_right (test a) (list_any test (range_with_len (a + 1) n)) (passes (a + 1) n k (omega arith) (omega arith) here))
+        (cases_eq k a)
 
 pub due_decides : (file : List ℕ) (order steps : ℕ) → Decides (leb (due_step file order) steps) (Due steps (due file order))
 due_decides file order steps = decides (due_step file order)
@@ -70,13 +81,13 @@ due_decides file order steps = decides (due_step file order)
         ))
         (cases_Bool (eqb d 0))
 
-pub printed_decides : (bytes : List ℕ) → Decides (all printable bytes) (Each (λ byte. (33 ≤ byte) × (byte ≤ 126)) bytes)
+pub printed_decides : (bytes : List ℕ) → Decides (list_all printable bytes) (Each (λ byte. (33 ≤ byte) × (byte ≤ 126)) bytes)
 printed_decides [] = ((λ e. tt), (λ h. refl))
 printed_decides (byte ∷ bytes) =
     let rest = printed_decides bytes in
     let here = between_decides 33 126 byte in (
-      (λ e. let p = and_parts (printable byte) (all printable bytes) e in (here.0 p.0, rest.0 p.1)),
-      (λ h. and_from (printable byte) (all printable bytes) (here.1 h.0) (rest.1 h.1)),
+      (λ e. let p = and_parts (printable byte) (list_all printable bytes) e in (here.0 p.0, rest.0 p.1)),
+      (λ h. and_from (printable byte) (list_all printable bytes) (here.1 h.0) (rest.1 h.1)),
     )
 
 -- no earlier order has the same label
@@ -85,7 +96,7 @@ pub distinct_decides : (file : List ℕ) (j : ℕ)
 distinct_decides file j = (
   (λ e i h same.
       both_ways (taken file j) (not-true (taken file j) e)
-      (any_found test j i h ((bytes_eq-Decides (label file i) (label file j)).1 same))),
+      ((any_decides test j).1 (i, h, (bytes_eq-Decides (label file i) (label file j)).1 same))),
   (λ apart.
       ⊎_elim
       (λ e.

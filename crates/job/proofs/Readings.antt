@@ -23,10 +23,6 @@ module _ (file : List ℕ) where
   answer : Result (Unit {0}) JobFault → Result Content JobFault
   answer r = elim r [ Ok passed ↦ Ok (content file) | Err fault ↦ Err fault ]
 
-  pub reading_accepts : verdict (checks file) ≡ Ok tt → reading file ≡ Ok (content file)
-  unfolding answer
-  reading_accepts e = ap answer e
-
   pub reading_refuses : (fault : JobFault) → verdict (checks file) ≡ Err fault → reading file ≡ Err fault
   unfolding answer
   reading_refuses fault e = ap answer e

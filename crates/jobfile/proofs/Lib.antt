@@ -1,2 +1,1 @@
 pub mod Loops
-mod Slices

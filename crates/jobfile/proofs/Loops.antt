@@ -1,29 +1,10 @@
 -- The steps of the reader's loops.
-use Rattle.std.proofs.Common.{◌≡◌, ℕ, zero, suc, ◌+◌, ◌-◌, ◌<◌, Bool, true, false, ◌&&◌, List, [], ◌∷◌, ◌++◌, map, length, get_or, drop, Ok, Err, Result, sym, refl, ap, ◌∙◌, ⊎_elim, add-one, arith}
-use Rattle.std.proofs.lemmas.List.{at_drop_more}
-use Rattle.std.proofs.lemmas.Bool.{cases_Bool, cases_eq, cond-true, cond-false, or_from, or_left, or_right}
+use Rattle.std.proofs.Common.{◌≡◌, ℕ, suc, ◌+◌, ◌-◌, ◌<◌, List, [], ◌∷◌, ◌++◌, map, Ok, Err, Result, sym, refl, ap, ◌∙◌, ⊎_elim, add-one, arith}
+use Rattle.std.proofs.lemmas.Bool.{cases_Bool, cond-true, cond-false}
 use Rattle.faults.specs.declared.file.FileFault.{FileFault}
 use Rattle.faults.specs.declared.job.JobFault.TheVariants.{File}
 use Rattle.jobfile.specs.Check.{Check, in_turn, verdict}
-use Rattle.jobfile.specs.Tests.{all, any_below}
 use Rattle.jobfile.specs.Checks.{in_file}
-
--- a search that has found nothing so far, and one that has found
-pub any_more : (test : ℕ → Bool) (i : ℕ) → any_below test i ≡ false → test i ≡ false → any_below test (i + 1) ≡ false
-any_more test i none here = ap (any_below test) (add-one i) ∙ or_from (any_below test i) (test i) none here
-
-pub any_found : (test : ℕ → Bool) (n k : ℕ) → k < n → test k ≡ true → any_below test n ≡ true
-any_found test zero k h here = absurd (omega arith)
-any_found test (suc n) k h here =
-    ⊎_elim
-    (λ (e : k ≡ n). or_right (any_below test n) (test n) (sym (ap test e) ∙ here))
-    (λ ne. or_left (any_below test n) (test n) (any_found test n k (omega arith) here))
-    (cases_eq k n)
-
--- the elements from i on: the next one and those after it
-pub all_more : (test : ℕ → Bool) (xs : List ℕ) (i : ℕ) → i < length xs
-    → all test (drop i xs) ≡ (test (get_or xs i 0) && all test (drop (i + 1) xs))
-all_more test xs i h = at_drop_more (all test) xs i 0 h
 
 module _ {F : Type 0} where
   pub not_passed : (fault : F) → ◌≡◌ {A = Result (Unit {0}) F} (Err fault) (Ok tt) → ⊥

@@ -1,5 +1,6 @@
 -- The checks that a job file meets, in their order.
 use Rattle.std.specs.Prelude.{ℕ, ◌*◌, ◌^◌, Bool, not, List, [], ◌∷◌, ◌++◌, map, length, is_ok, ◌==◌, nat_le, nat_lt}
+use Rattle.std.specs.List.{list_all}
 use Rattle.faults.specs.declared.file.FileFault.{FileFault}
 use Rattle.faults.specs.declared.file.FileFault.TheVariants.{Short, Edition, Length, Sheets, Orders, RowsOutside, RecordsOutside}
 use Rattle.faults.specs.declared.job.JobFault.{JobFault}
@@ -7,7 +8,7 @@ use Rattle.faults.specs.declared.job.JobFault.TheVariants.{File, EmptyRow, Stran
 use Rattle.jobfile.specs.Check.{Check, check, in_turn, verdict}
 use Rattle.jobfile.specs.Edition.{header_bytes, row_bytes, record_bytes, most_sheets, most_orders}
 use Rattle.jobfile.specs.Fields.{edition, sheets, orders, rows_at, records_at, stated_length, row, due_step, label}
-use Rattle.jobfile.specs.Tests.{between, all, inside, served, label_fits, printable, taken}
+use Rattle.jobfile.specs.Tests.{between, inside, served, label_fits, printable, taken}
 
 -- the header, and where the rows and the records lie
 abbrev pub file_checks : List ℕ → List (Check FileFault)
@@ -32,7 +33,7 @@ order_checks file order =
     check (served file order) (Unserved order)
     ∷ check (nat_le (due_step file order) (sheets file)) (DueTooLate order)
     ∷ check (label_fits file order) (LabelOutside order)
-    ∷ check (all printable (label file order)) (LabelUnprintable order)
+    ∷ check (list_all printable (label file order)) (LabelUnprintable order)
     ∷ check (not (taken file order)) (LabelTaken order)
     ∷ []
 

@@ -1,5 +1,6 @@
 -- The tests that the checks of a job file are made of.
-use Rattle.std.specs.Prelude.{ℕ, zero, suc, ◌+◌, Bool, true, false, ◌&&◌, ◌||◌, List, [], ◌∷◌, length, nat_le}
+use Rattle.std.specs.Prelude.{ℕ, ◌+◌, Bool, ◌&&◌, List, length, nat_le}
+use Rattle.std.specs.List.{list_any, range_with_len}
 use Rattle.std.specs.Str.{bytes_eq}
 use Rattle.sets.specs.Bits.{has}
 use Rattle.jobfile.specs.Edition.{header_bytes, most_label_bytes}
@@ -8,23 +9,13 @@ use Rattle.jobfile.specs.Fields.{sheets, row, label, label_at, label_bytes}
 abbrev pub between : ℕ → ℕ → ℕ → Bool
 between low high n = nat_le low n && nat_le n high
 
--- some number below k passes the test
-abbrev pub any_below : (ℕ → Bool) → ℕ → Bool
-any_below test zero = false
-any_below test (suc k) = any_below test k || test k
-
--- every element passes the test
-abbrev pub all : (ℕ → Bool) → List ℕ → Bool
-all test [] = true
-all test (x ∷ xs) = test x && all test xs
-
 -- so many bytes from an offset on lie between the header and the end
 abbrev pub inside : List ℕ → ℕ → ℕ → Bool
 inside file at size = nat_le header_bytes at && nat_le (at + size) (length file)
 
 -- some sheet serves the order
 abbrev pub served : List ℕ → ℕ → Bool
-served file order = any_below (λ sheet. has (row file sheet) order) (sheets file)
+served file order = list_any (λ sheet. has (row file sheet) order) (range_with_len 0 (sheets file))
 
 -- the label has a length that labels can have, and lies inside
 abbrev pub label_fits : List ℕ → ℕ → Bool
@@ -36,4 +27,4 @@ printable byte = between 33 126 byte
 
 -- an earlier order has the same label
 abbrev pub taken : List ℕ → ℕ → Bool
-taken file order = any_below (λ earlier. bytes_eq (label file earlier) (label file order)) order
+taken file order = list_any (λ earlier. bytes_eq (label file earlier) (label file order)) (range_with_len 0 order)

@@ -29,7 +29,7 @@ fn part(file: &[u8], at: usize, size: usize) -> &[u8]
 fn byte(file: &[u8], at: usize) -> u8
     ensures value { result ≡ slice_index file.now at }
 {
-    if at < file.len() { file[at] } else { 0 }
+    file.get(at).copied().unwrap_or(0)
 }
 
 // The 16-bit number at an offset.
@@ -49,7 +49,7 @@ pub fn row(file: &[u8], sheet: u16) -> OrderSet
 }
 
 // The record of an order.
-#[derive(Clone, Copy)]
+#[derive(Clone, Copy, Debug, PartialEq, Eq)]
 pub struct OrderRecord {
     // 0 for none
     pub due_step: u16,

@@ -1,10 +1,11 @@
 // The checks of a job file, in the order in which they are made.
-ghost use Rattle.jobfile.specs.Check.{in_turn, verdict};
-ghost use Rattle.jobfile.specs.Fields.{label, orders, sheets};
-ghost use Rattle.jobfile.specs.Tests.{all, inside, label_fits, printable, served, taken};
+ghost use Rattle.jobfile.specs.Check.{Check, in_turn, verdict};
+ghost use Rattle.jobfile.specs.Fields.{label};
+ghost use Rattle.jobfile.specs.Tests.{inside, label_fits, printable, served, taken};
 ghost use Rattle.jobfile.specs.Checks.{checks, file_checks, order_checks, sheet_checks};
-ghost use Rattle.std.specs.Str.{bytes_eq};
-ghost use Rattle.std.specs.Prelude.{◌≡◌};
+ghost use Rattle.faults.specs.declared.job.JobFault.{JobFault};
+ghost use Rattle.std.specs.List.{list_all};
+ghost use Rattle.std.specs.Prelude.{◌≡◌, ℕ, ◌<◌, List};
 
 use crate::bytes::{
     ORDERS_AT, RECORD_BYTES, RECORDS_AT, ROW_BYTES, ROWS_AT, SHEETS_AT, field, label, order_record,
@@ -35,8 +36,19 @@ pub fn check(file: &[u8]) -> Result<(), JobFault>
     ensures value { result ≡ verdict (checks file.now) }
 {
     check_file(file)?;
-    check_sheets(file)?;
-    check_orders(file)
+    in_turn(field(file, SHEETS_AT), |sheet| check_sheet(file, sheet))?;
+    in_turn(field(file, ORDERS_AT), |order| check_order(file, order))
+}
+
+// Each sheet or order in rising number, until one fails.
+fn in_turn<F: Fn(u16) -> Result<(), JobFault>>(count: u16, check: F) -> Result<(), JobFault>
+    requires { F.IsAlwaysCallable check }
+    ensures value { (checks : ℕ → List (Check JobFault)) → ((n : ℕ) (r : _) → n < count → F.post check n r → r ≡ verdict (checks n)) → result ≡ verdict (in_turn checks 0 count) }
+{
+    for n in 0..count {
+        check(n)?;
+    }
+    Ok(())
 }
 
 // The header, and where rows and records lie.
@@ -55,11 +67,11 @@ fn check_file(file: &[u8]) -> Result<(), FileFault>
         return Err(FileFault::Length { bytes });
     }
     let sheets = field(file, SHEETS_AT);
-    if sheets == 0 || sheets > MOST_SHEETS {
+    if !(1..=MOST_SHEETS).contains(&sheets) {
         return Err(FileFault::Sheets { sheets });
     }
     let orders = field(file, ORDERS_AT);
-    if orders == 0 || orders > MOST_ORDERS {
+    if !(1..=MOST_ORDERS).contains(&orders) {
         return Err(FileFault::Orders { orders });
     }
     if !is_inside(file, field(file, ROWS_AT), ROW_BYTES * u32::from(sheets)) {
@@ -83,17 +95,6 @@ fn is_inside(file: &[u8], at: u16, size: u32) -> bool
     at >= HEADER_BYTES && at + size as usize <= file.len()
 }
 
-// Each sheet in rising number.
-fn check_sheets(file: &[u8]) -> Result<(), JobFault>
-    ensures value { result ≡ verdict (in_turn (sheet_checks file.now) 0 (sheets file.now)) }
-{
-    let sheets = field(file, SHEETS_AT);
-    for sheet in 0..sheets {
-        check_sheet(file, sheet)?;
-    }
-    Ok(())
-}
-
 fn check_sheet(file: &[u8], sheet: u16) -> Result<(), JobFault>
     ensures value { result ≡ verdict (sheet_checks file.now sheet) }
 {
@@ -103,17 +104,6 @@ fn check_sheet(file: &[u8], sheet: u16) -> Result<(), JobFault>
     }
     if !row.is_below(field(file, ORDERS_AT)) {
         return Err(JobFault::StrangeOrder { sheet });
-    }
-    Ok(())
-}
-
-// Each order in rising number.
-fn check_orders(file: &[u8]) -> Result<(), JobFault>
-    ensures value { result ≡ verdict (in_turn (order_checks file.now) 0 (orders file.now)) }
-{
-    let orders = field(file, ORDERS_AT);
-    for order in 0..orders {
-        check_order(file, order)?;
     }
     Ok(())
 }
@@ -143,13 +133,7 @@ fn check_order(file: &[u8], order: u16) -> Result<(), JobFault>
 fn is_served(file: &[u8], order: u16) -> bool
     ensures value { result ≡ served file.now order }
 {
-    let sheets = field(file, SHEETS_AT);
-    for sheet in 0..sheets {
-        if row(file, sheet).has(order) {
-            return true;
-        }
-    }
-    false
+    (0..field(file, SHEETS_AT)).any(|sheet| row(file, sheet).has(order))
 }
 
 // Whether the label has a length that labels can have, and lies inside.
@@ -158,12 +142,12 @@ fn label_fits(file: &[u8], order: u16) -> bool
 {
     let record = order_record(file, order);
     let bytes = record.label_bytes;
-    1 <= bytes && bytes <= MOST_LABEL_BYTES && is_inside(file, record.label_at, u32::from(bytes))
+    (1..=MOST_LABEL_BYTES).contains(&bytes) && is_inside(file, record.label_at, u32::from(bytes))
 }
 
 // Whether every byte can stand in a label.
 fn is_printable(label: &[u8]) -> bool
-    ensures value { result ≡ all printable label.now }
+    ensures value { result ≡ list_all printable label.now }
 {
     for byte in label {
         if !is_label_byte(*byte) {
@@ -176,24 +160,12 @@ fn is_printable(label: &[u8]) -> bool
 fn is_label_byte(byte: u8) -> bool
     ensures value { result ≡ printable byte }
 {
-    FIRST_PRINTABLE <= byte && byte <= LAST_PRINTABLE
+    (FIRST_PRINTABLE..=LAST_PRINTABLE).contains(&byte)
 }
 
 // Whether an earlier order has the same label.
 fn is_taken(file: &[u8], order: u16) -> bool
     ensures value { result ≡ taken file.now order }
 {
-    for earlier in 0..order {
-        if is_same(label(file, earlier), label(file, order)) {
-            return true;
-        }
-    }
-    false
-}
-
-// Whether two labels have the same bytes.
-fn is_same(label: &[u8], other: &[u8]) -> bool
-    ensures value { result ≡ bytes_eq label.now other.now }
-{
-    label == other
+    (0..order).any(|earlier| label(file, earlier) == label(file, order))
 }

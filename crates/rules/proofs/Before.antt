@@ -1,11 +1,9 @@
 -- A set to which the numbers that pass a test are added, one after the other.
-use Rattle.std.proofs.Common.{◌≡◌, ℕ, ◌+◌, ◌<◌, ◌≤◌, Bool, true, false, ◌&&◌, ◌||◌, eqb, ltb, List, length, get_or, None, Option, sym, ap, ◌∙◌, ⊎_elim, arith}
+use Rattle.std.proofs.Common.{◌≡◌, ℕ, ◌+◌, ◌<◌, Bool, true, false, ◌&&◌, ◌||◌, eqb, ltb, sym, ap, ◌∙◌, ⊎_elim, arith}
 use Rattle.sets.specs.Bits.{has}
 use Rattle.sets.specs.Orders.{room}
 use Rattle.sets.proofs.Bits.{or_off}
-use Rattle.sequences.specs.StepRules.{due_before}
-use Rattle.std.proofs.lemmas.List.{get_or_past}
-use Rattle.std.proofs.lemmas.Bool.{and_from, and_left, and_right, cases_eq, cases_lt, eq-eqb, le-ltb, lt-ltb, ne_eqb, or_right}
+use Rattle.std.proofs.lemmas.Bool.{and_from, and_left, and_right, cases_eq, eq-eqb, le-ltb, lt-ltb, ne_eqb, or_right}
 use Rattle.std.proofs.lemmas.Bool.Decides.{nat_tests}
 
 module _ (test : ℕ → Bool) where
@@ -40,15 +38,3 @@ module _ (test : ℕ → Bool) where
         ∙ sym (and_right (ltb j (k + 1)) (test j) (ap test e ∙ off))))
         (λ ne. before j ∙ apart j ne)
         (cases_eq j k)
-
--- every order with a due step has been looked at
-pub upto_all : (step : ℕ) (dues : List (Option ℕ)) (k set : ℕ) → Upto (λ j. due_before step (get_or dues j None)) set k → length dues ≤ k
-    → (j : ℕ) → has set j ≡ due_before step (get_or dues j None)
-upto_all step dues k set seen all j =
-    seen j
-    ∙ ⊎_elim
-    (λ h. ap (λ b. b && due_before step (get_or dues j None)) (lt-ltb j k h))
-    (λ past.
-    let none : due_before step (get_or dues j None) ≡ false = ap (due_before step) (get_or_past dues j None (omega arith)) in
-    and_right (ltb j k) (due_before step (get_or dues j None)) none ∙ sym none)
-    (cases_lt j k)

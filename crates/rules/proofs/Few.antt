@@ -1,12 +1,9 @@
 -- How many sheets are done where one is still to come.
-use Rattle.std.proofs.Common.{◌≡◌, ℕ, zero, suc, ◌+◌, ◌/◌, ◌^◌, ◌<◌, true, false, not, ◌&&◌, ltb, length, sym, ap, ◌∙◌, arith}
+use Rattle.std.proofs.Common.{◌≡◌, ℕ, zero, suc, ◌+◌, ◌/◌, ◌^◌, ◌<◌, true, false, not, ◌&&◌, ltb, ap, ◌∙◌, arith}
 use native.Mathlib.Nat.{pow-succ'}
 use lib.Count.{ones, ones_step, ones-le}
-use Rattle.sets.specs.declared.rows.Rows.{Rows}
 use Rattle.sets.specs.Bits.{has, with}
-use Rattle.sets.specs.RowLists.{rows_of}
 use Rattle.sets.proofs.Bits.{bit, off_from_has, with_below}
-use Rattle.sets.proofs.Room.{few_rows}
 use Rattle.sequences.specs.StepRules.{is_next}
 use Rattle.std.proofs.lemmas.Bool.{and_parts, cond-false, ltb-true, not-true}
 
@@ -40,7 +37,3 @@ module _ (n S p : ℕ) (next : is_next n S p ≡ true) where
       let grown : ones (with S p) ≡ ones S + 1 =
       ap ones (cond-false (has S p) S (S + 2 ^ p) next_new) ∙ ones-add S p (off_from_has S p next_new) in
       omega (arith, grown, ones-le n (with S p) (with_below S p n done_below next_listed))
-
--- and at most 16, so that there is an entry for each number of sheets done
-pub few_next : (rows : Rows) (S p : ℕ) → true ≡ is_next (length (rows_of rows)) S p → ones S < 16
-few_next rows S p next = omega (arith, few_rows rows, few_done (length (rows_of rows)) S p (sym next))

@@ -40,9 +40,8 @@ impl<R: Rule> Rule for Limit<R> {
 
     fn ask(&self, done: SheetSet, next: u8) -> Answer {
         let answer = self.below.ask(done, next);
-        match answer.figure {
-            Some(figure) if figure > self.most => Answer { figure: None },
-            _ => answer,
+        Answer {
+            figure: answer.figure.filter(|&figure| figure <= self.most),
         }
     }
 }

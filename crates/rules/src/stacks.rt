@@ -8,7 +8,7 @@ ghost use Rattle.std.specs.Prelude.{◌≡◌, length};
 ghost use Rattle.rules.specs.Laws.{open_keeps};
 
 use crate::answer::Answer;
-use crate::next::{is_next, undone};
+use crate::next::unfinished;
 use crate::rule::Rule;
 use job::Job;
 use sets::{Rows, SheetSet};
@@ -48,13 +48,10 @@ impl Rule for Open {
 
     // The orders that are begun once the next sheet is cut, and were not finished before.
     fn ask(&self, done: SheetSet, next: u8) -> Answer {
-        if !is_next(&self.rows, done, next) {
-            return Answer { figure: None };
-        }
-        let begun = self.rows.reach(done.with(next));
-        let left = self.rows.reach(undone(&self.rows, done));
-        Answer {
-            figure: Some(begun.common(left)),
-        }
+        let figure = unfinished(&self.rows, done, next).map(|left| self
+            .rows
+            .reach(done.with(next))
+            .common(left));
+        Answer { figure }
     }
 }

@@ -1,5 +1,4 @@
 pub mod Bits
-pub mod Bytes
 pub mod Reached
 pub mod Room
 mod RowLists

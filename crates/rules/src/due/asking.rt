@@ -1,12 +1,14 @@
 // What the rule Due answers.
 ghost use Rattle.rules.specs.Meanings.{due_asks, due_count};
 ghost use Rattle.rules.specs.Laws.{due_keeps};
+ghost use Rattle.sets.specs.Orders.{members};
+ghost use Rattle.std.specs.Prelude.{◌≡◌, map, count_ones, slice_index};
 
 use super::Due;
 use crate::answer::Answer;
-use crate::next::{is_next, undone};
+use crate::next::unfinished;
 use crate::rule::Rule;
-use sets::SheetSet;
+use sets::{OrderSet, SheetSet};
 
 impl Rule for Due {
     ghost count = { due_count };
@@ -21,13 +23,19 @@ impl Rule for Due {
 
     // The orders due before this step that are not finished yet.
     fn ask(&self, done: SheetSet, next: u8) -> Answer {
-        if !is_next(&self.rows, done, next) {
-            return Answer { figure: None };
-        }
-        let overdue = self.overdue[usize::from(done.count())];
-        let left = self.rows.reach(undone(&self.rows, done));
-        Answer {
-            figure: Some(overdue.common(left)),
-        }
+        let figure = unfinished(&self.rows, done, next).map(|left| self.late(done).common(left));
+        Answer { figure }
+    }
+}
+
+impl Due {
+    // The orders that count as late in a step, from the sheets done before it.
+    fn late(&self, done: SheetSet) -> OrderSet
+        ensures value { members result ≡ slice_index (map members self.now.overdue) (count_ones done.bits) }
+    {
+        self.overdue
+            .get(usize::from(done.count()))
+            .copied()
+            .unwrap_or(OrderSet::empty())
     }
 }

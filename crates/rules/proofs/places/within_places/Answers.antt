@@ -6,13 +6,8 @@ use Rattle.rules.proofs.places.within_places.Goals as goal
 use Rattle.sequences.specs.JobCosts.{PermitsPeaks}
 use Rattle.sequences.specs.StepRules.{limit}
 
-pub returns : goal.returns
-returns c =
+pub returns-clause-permits : goal.returns-clause-permits
+returns-clause-permits c =
     let job = c.args.job.now in
     let asks = c.new.ensures.asks ∙ ap (limit c.args.places) c.of.ensures.asks in
-    record {
-      count = c.new.ensures.count ∙ c.of.ensures.count;
-      asks = asks;
-      permits =
-          subst (λ rule. PermitsPeaks c.args.places rule (content_of job)) (sym asks) (peaks_permitted (content_of job) (job_sound job) c.args.places);
-    }
+    subst (λ rule. PermitsPeaks c.args.places rule (content_of job)) (sym asks) (peaks_permitted (content_of job) (job_sound job) c.args.places)

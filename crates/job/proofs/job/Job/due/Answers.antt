@@ -1,21 +1,10 @@
 use Rattle.std.proofs.Common.{◌<◌, eqb, Some, None, sym, ap, ◌∙◌, arith}
-use Rattle.std.proofs.lemmas.List.{get_or_past}
 use Rattle.std.proofs.lemmas.Bool.{cond-false, cond-true, eq-eqb, ne_eqb}
 use Rattle.jobfile.specs.Fields.{due_step, orders}
-use Rattle.job.specs.Jobs.{content_of, file_of}
-use Rattle.job.proofs.Accepted.{due_at, due_small, dues_length, labels_length}
+use Rattle.job.specs.Jobs.{file_of}
+use Rattle.job.proofs.Accepted.{due_at, due_small, labels_length}
 use Rattle.job.proofs.Readings.{accepted_passes}
 use Rattle.job.proofs.job.Job.due.Goals as goal
-
-pub returns-then-order-orders : goal.returns-then-order-orders
-returns-then-order-orders c =
-    let file = file_of c.args.self.now in
-    record {
-      value =
-          sym
-          (get_or_past (content_of c.args.self.now).dues c.args.order None
-          (omega (arith, c.orders.ensures.value, labels_length file, dues_length file)));
-    }
 
 pub overflow_cast-result : goal.overflow_cast-result
 overflow_cast-result c =

@@ -1,7 +1,6 @@
-use Rattle.std.proofs.Common.{[], sym, ap, ◌∙◌, arith}
-use Rattle.std.proofs.lemmas.List.{get_or_past}
+use Rattle.std.proofs.Common.{sym, ap, ◌∙◌, arith}
 use Rattle.jobfile.specs.Fields.{label}
-use Rattle.job.specs.Jobs.{content_of, file_of}
+use Rattle.job.specs.Jobs.{file_of}
 use Rattle.job.proofs.Accepted.{label_at_lem, labels_length}
 use Rattle.job.proofs.job.Job.label.Goals as goal
 
@@ -13,11 +12,4 @@ returns-then-order-orders c =
           c.label.ensures.value
           ∙ (ap (λ f. label f c.args.order) c.deref.ensures.value
           ∙ sym (label_at_lem file c.args.order (omega (arith, c.orders.ensures.value, labels_length file))));
-    }
-
-pub returns-else-order-orders : goal.returns-else-order-orders
-returns-else-order-orders c =
-    record {
-      value =
-          sym (get_or_past (content_of c.args.self.now).labels c.args.order [] (omega (arith, c.orders.ensures.value)));
     }

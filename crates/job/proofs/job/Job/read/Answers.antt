@@ -1,8 +1,8 @@
-use Rattle.std.proofs.Common.{Err, vec_items, sym, refl, ap, ◌∙◌}
+use Rattle.std.proofs.Common.{Err, vec_items, sym, ap, ◌∙◌}
 use Rattle.std.proofs.lemmas.Result.{err_from_is_err_and}
 use Rattle.jobfile.specs.Check.{verdict}
 use Rattle.jobfile.specs.Checks.{checks}
-use Rattle.job.proofs.Readings.{accepts_well, reading_accepts, refusal}
+use Rattle.job.proofs.Readings.{accepts_well, refusal}
 use Rattle.job.proofs.job.Job.read.Goals as goal
 
 pub returns-in_err-check : goal.returns-in_err-check
@@ -13,9 +13,7 @@ returns-in_err-check c =
     let q = refusal file c.from_residual.result _ (p.1 ∙ ap Err p.2) (sym same ∙ sym c.in_err-check.ensures.value) in
     record { value = q.0; file = q.1; accepts = q.2; refuses = q.3 }
 
-pub returns : goal.returns
-returns c =
-    let file = vec_items c.args.file in
+pub returns-clause-accepts : goal.returns-clause-accepts
+returns-clause-accepts c =
     let same = ap (λ f. verdict (checks f)) c.deref.ensures.value in
-    let passed = sym same ∙ sym c.in_ok-check.ensures.value in
-    record { value = sym (reading_accepts file passed); file = refl; accepts = accepts_well file passed; refuses = tt }
+    accepts_well (vec_items c.args.file) (sym same ∙ sym c.in_ok-check.ensures.value)

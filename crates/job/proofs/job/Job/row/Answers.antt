@@ -1,7 +1,6 @@
 use Rattle.std.proofs.Common.{sym, ◌∙◌, ap₂, arith}
-use Rattle.std.proofs.lemmas.List.{get_or_past}
 use Rattle.jobfile.specs.Fields.{row}
-use Rattle.job.specs.Jobs.{content_of, file_of}
+use Rattle.job.specs.Jobs.{file_of}
 use Rattle.job.proofs.Accepted.{row_at, rows_length}
 use Rattle.job.proofs.job.Job.row.Goals as goal
 
@@ -13,12 +12,4 @@ returns-then-sheet-sheets c =
           c.row.ensures.value
           ∙ (ap₂ row c.deref.ensures.value c.from.ensures
           ∙ sym (row_at file c.args.sheet (omega (arith, c.sheets.ensures.value, rows_length file))));
-    }
-
-pub returns-else-sheet-sheets : goal.returns-else-sheet-sheets
-returns-else-sheet-sheets c =
-    record {
-      value =
-          c.empty.ensures.value
-          ∙ sym (get_or_past (content_of c.args.self.now).rows c.args.sheet 0 (omega (arith, c.sheets.ensures.value)));
     }

@@ -1,36 +1,27 @@
-use Rattle.std.proofs.Common.{map, length, get_or, set, ap, ◌∙◌, arith}
+use Rattle.std.proofs.Common.{ℕ, ◌+◌, ◌<◌, length, get_or, sym, ap, ◌∙◌, subst, arith, rules}
+use Rattle.std.proofs.lemmas.List.{get_or-map}
 use Rattle.job.specs.Jobs.{content_of}
-use Rattle.rules.specs.DueSets.{overdue_rule}
-use Rattle.sets.specs.Bits.{has}
+use Rattle.rules.specs.DueSets.{DueBefore, overdue_rule}
+use Rattle.sets.specs.declared.orders.OrderSet.{OrderSet}
 use Rattle.sets.specs.Orders.{members}
 use Rattle.sets.proofs.Room.{few_rows}
-use Rattle.std.proofs.lemmas.List.{length-set}
-use Rattle.rules.proofs.Overdue.{entry_more, overdue_due}
+use Rattle.rules.proofs.FromFn.{each_made}
+use Rattle.rules.proofs.Overdue.{overdue_due}
 use Rattle.rules.proofs.due.Due.of.Goals as goal
 
-pub loop-done-preserved : goal.loop-done-preserved
-loop-done-preserved c =
-    let overdue = c.loop-done.overdue in
-    let done = c.loop-done.done in
-    let orders = c.due_before.result in
-    let whole = c.loop-done.invariant.0 in (
-      length-set overdue c.from.result orders ∙ whole,
-      λ t h j.
-          ap (λ i. has (get_or (map members (set overdue i orders)) t 0) j) c.from.ensures
-          ∙ entry_more (content_of c.args.job.now).dues overdue done orders (omega (arith, whole, c.loop-done-test.true))
-          c.loop-done.invariant.1 c.due_before.ensures.value t h j,
-    )
+-- any set of orders
+some_set : OrderSet
+some_set = record { bits = 0; fits = omega arith }
 
-pub returns : goal.returns
-returns c =
+pub returns-clause-asks : goal.returns-clause-asks
+returns-clause-asks c =
     let content = content_of c.args.job.now in
     let rows = c.rows.ensures.value in
-    record {
-      count = c.new.ensures.count ∙ ap length rows;
-      asks =
-          c.new.ensures.asks
-          ∙ (ap (λ rs. overdue_rule rs c.loop-done.overdue) rows
-          ∙ overdue_due content.rows content.dues c.loop-done.overdue
-          (omega (arith, ap length rows, few_rows c.rows.result))
-          (λ t h. c.loop-done.invariant.1 t (omega (arith, c.loop-done-test.false))));
-    }
+    let overdue = c.from_fn-overdue.result in
+    let made = c.from_fn-overdue.ensures.items in
+    let entry : (t : ℕ) → t < 16 → DueBefore content.dues (t + 1) (members (get_or overdue t some_set)) =
+    λ t h. each_made _ _ (λ t orders. DueBefore content.dues (t + 1) (members orders)) overdue (λ i y q said. (search rules, search rules)) 0 16 made.each t some_set (omega arith) (omega arith) in
+    c.new.ensures.asks
+    ∙ (ap (λ rs. overdue_rule rs overdue) rows
+    ∙ overdue_due content.rows content.dues overdue (omega (arith, ap length rows, few_rows c.rows.result))
+    (λ t h. subst (DueBefore content.dues (t + 1)) (sym (get_or-map members overdue t some_set 0 (omega (arith, made.long)))) (entry t h)))
