@@ -1,16 +1,17 @@
 // Peak, spread and lateness of a sequence.
 ghost use Rattle.job.specs.Jobs.{content_of};
 ghost use Rattle.measures.specs.Measured.{measured};
-ghost use Rattle.sequences.specs.Stacks.{serving, open_orders, peak, spread, lateness, late};
+ghost use Rattle.sequences.specs.JobCosts.{open_of, peak_of, spread_of, lateness_of};
+ghost use Rattle.sequences.specs.Stacks.{serving, first, last, span, late};
 ghost use Rattle.sets.specs.RowLists.{rows_of};
-ghost use Rattle.std.specs.Prelude.{◌≡◌, ◌≤◌, length};
+ghost use Rattle.std.specs.Prelude.{◌≡◌, ◌≤◌, None, length, slice_index_or};
 
 use crate::naming::is_sequence;
 use crate::stacks::Stack;
 use job::Job;
 use sets::Rows;
 
-#[derive(Clone, Copy)]
+#[derive(Clone, Copy, Debug, PartialEq, Eq)]
 pub struct Measures {
     pub peak: u16,
     pub spread: u32,
@@ -24,69 +25,80 @@ pub fn measure(job: &Job, list: &[u8]) -> Option<Measures>
     if !is_sequence(job.sheets(), list) {
         return None;
     }
-    let rows = job.rows();
-    let orders = job.orders();
+    let sequence = Sequence {
+        job,
+        rows: job.rows(),
+        sheets: list,
+    };
     Some(Measures {
-        peak: peak(&rows, orders, list),
-        spread: spread(&rows, orders, list),
-        lateness: lateness(job, &rows, list),
+        peak: sequence.peak(),
+        spread: sequence.spread(),
+        lateness: sequence.lateness(),
     })
 }
 
-fn peak(rows: &Rows, orders: u16, sequence: &[u8]) -> u16
-    ensures value { result ≡ peak (serving (rows_of rows.now)) orders sequence.now }
-{
-    let mut peak = 0;
-    for i in 0..sequence.len() {
-        let open = open_orders(rows, orders, sequence, i + 1);
-        if open > peak {
-            peak = open;
-        }
-    }
-    peak
+// A sequence of a job's sheets.
+#[derive(Drop)]
+struct Sequence<'a> {
+    job: &'a Job,
+    rows: Rows,
+    sheets: &'a [u8],
+    ghost of_job: { rows_of rows ≡ (content_of job.now).rows },
+    ghost few: { length sheets.now ≤ 16 },
 }
 
-// How many orders are open in a step.
-fn open_orders(rows: &Rows, orders: u16, sequence: &[u8], step: usize) -> u16
-    ensures value { result ≡ open_orders (serving (rows_of rows.now)) orders sequence.now step }
-{
-    let mut open = 0;
-    for order in 0..orders {
-        if Stack::of(rows, sequence, order).is_open(step) {
-            open += 1;
-        }
+impl Sequence<'_> {
+    fn peak(&self) -> u16
+        ensures value { result ≡ peak_of (content_of self.now.job.now) self.now.sheets.now }
+    {
+        (1..self.sheets.len() + 1).fold(0, |peak, step| peak.max(self.open_orders(step)))
     }
-    open
-}
 
-fn spread(rows: &Rows, orders: u16, sequence: &[u8]) -> u32
-    requires { length sequence.now ≤ 16 }
-    ensures value { result ≡ spread (serving (rows_of rows.now)) orders sequence.now }
-{
-    let mut total = 0;
-    for order in 0..orders {
-        total += Stack::of(rows, sequence, order).span() as u32;
+    // How many orders are open in a step.
+    fn open_orders(&self, step: usize) -> u16
+        ensures value { result ≡ open_of (content_of self.now.job.now) self.now.sheets.now step }
+    {
+        (0..self.job.orders())
+            .filter(|&order| self.stack(order).is_open(step))
+            .count() as u16
     }
-    total
-}
 
-fn lateness(job: &Job, rows: &Rows, sequence: &[u8]) -> u32
-    requires { length sequence.now ≤ 16 }
-    ensures value { result ≡ lateness (serving (rows_of rows.now)) (length (content_of job.now).labels) (content_of job.now).dues sequence.now }
-{
-    let mut total = 0;
-    for order in 0..job.orders() {
-        total += late(job.due(order), Stack::of(rows, sequence, order).last) as u32;
+    fn spread(&self) -> u32
+        ensures value { result ≡ spread_of (content_of self.now.job.now) self.now.sheets.now }
+    {
+        (0..self.job.orders()).map(|order| self.span(order)).sum()
     }
-    total
-}
 
-// How many steps after its due step, if it has one, an order is finished.
-fn late(due: Option<u8>, last: usize) -> usize
-    ensures value { result ≡ late due last }
-{
-    match due {
-        None => 0,
-        Some(due) => last.saturating_sub(usize::from(due)),
+    fn lateness(&self) -> u32
+        ensures value { result ≡ lateness_of (content_of self.now.job.now) self.now.sheets.now }
+    {
+        (0..self.job.orders()).map(|order| self.late(order)).sum()
+    }
+
+    // In how many steps an order's stack is open.
+    fn span(&self, order: u16) -> u32
+        ensures value { result ≡ span (serving (content_of self.now.job.now).rows order) self.now.sheets.now }
+        ensures few { result ≤ 16 }
+    {
+        self.stack(order).span() as u32
+    }
+
+    // How many steps after its due step, if it has one, an order is finished.
+    fn late(&self, order: u16) -> u32
+        ensures value { result ≡ late (slice_index_or (content_of self.now.job.now).dues order None) (last (serving (content_of self.now.job.now).rows order) self.now.sheets.now) }
+        ensures few { result ≤ 16 }
+    {
+        let last = self.stack(order).last;
+        self.job
+            .due(order)
+            .map_or(0, |due| last.saturating_sub(usize::from(due))) as u32
+    }
+
+    fn stack(&self, order: u16) -> Stack
+        ensures first { result.first ≡ first (serving (content_of self.now.job.now).rows order) self.now.sheets.now }
+        ensures last { result.last ≡ last (serving (content_of self.now.job.now).rows order) self.now.sheets.now }
+        ensures within { result.last ≤ 16 }
+    {
+        Stack::of(&self.rows, self.sheets, order)
     }
 }

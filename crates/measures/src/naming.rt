@@ -1,7 +1,7 @@
 // Whether a list of numbers names each sheet of a job exactly once.
 ghost use Rattle.sequences.specs.Sequences.{Sequence, is_sequence, times};
-ghost use Rattle.std.specs.Prelude.{◌≡◌, Decides, nat_eq, nat_lt};
 ghost use Rattle.std.specs.List.{list_all, range_with_len};
+ghost use Rattle.std.specs.Prelude.{◌≡◌, Decides, nat_eq, nat_lt};
 
 pub fn is_sequence(sheets: u8, list: &[u8]) -> bool
     ensures value { result ≡ is_sequence sheets list.now }
@@ -13,34 +13,18 @@ pub fn is_sequence(sheets: u8, list: &[u8]) -> bool
 fn all_below(sheets: u8, list: &[u8]) -> bool
     ensures value { result ≡ list_all (λ p. nat_lt p sheets) list.now }
 {
-    for sheet in list {
-        if *sheet >= sheets {
-            return false;
-        }
-    }
-    true
+    list.iter().all(|&sheet| sheet < sheets)
 }
 
 fn each_once(sheets: u8, list: &[u8]) -> bool
     ensures value { result ≡ list_all (λ p. nat_eq (times list.now p) 1) (range_with_len 0 sheets) }
 {
-    for sheet in 0..sheets {
-        if times(list, sheet) != 1 {
-            return false;
-        }
-    }
-    true
+    (0..sheets).all(|sheet| times(list, sheet) == 1)
 }
 
 // How often the list names a sheet.
 fn times(list: &[u8], sheet: u8) -> usize
     ensures value { result ≡ times list.now sheet }
 {
-    let mut count = 0;
-    for named in list {
-        if *named == sheet {
-            count += 1;
-        }
-    }
-    count
+    list.iter().filter(|&&named| named == sheet).count()
 }

@@ -6,7 +6,7 @@ ghost use Rattle.std.specs.Prelude.{◌≡◌, ℕ, ◌+◌, ◌-◌, ◌≤◌,
 use sets::Rows;
 
 // The steps of an order's earliest and latest sheet. Where no sheet serves it, `first` lies past the end and `last` is 0.
-#[derive(Clone, Copy)]
+#[derive(Clone, Copy, Debug, PartialEq, Eq)]
 pub struct Stack {
     pub first: usize,
     pub last: usize,
@@ -21,15 +21,9 @@ impl Stack {
         ensures earliest { IsFirst (serving (rows_of rows.now) order) sequence.now result.first }
         ensures latest { IsLast (serving (rows_of rows.now) order) sequence.now result.last }
     {
-        let mut first = 1;
-        let mut last = 0;
-        for i in 0..sequence.len() {
-            if rows.row(sequence[i]).has(order) {
-                last = i + 1;
-            } else if last == 0 {
-                first = i + 2;
-            }
-        }
+        let serves = |&sheet: &u8| rows.row(sheet).has(order);
+        let first = sequence.iter().position(serves).unwrap_or(sequence.len()) + 1;
+        let last = sequence.iter().rposition(serves).map_or(0, |at| at + 1);
         Stack { first, last }
     }
 
@@ -46,10 +40,6 @@ impl Stack {
         ensures value { (serves : ℕ → Bool) (s : List ℕ) → self.first ≡ first serves s → self.last ≡ last serves s → result ≡ span serves s }
         ensures steps { result ≡ self.last + 1 - self.first }
     {
-        if self.first <= self.last {
-            self.last - self.first + 1
-        } else {
-            0
-        }
+        self.last.saturating_sub(self.first - 1)
     }
 }
