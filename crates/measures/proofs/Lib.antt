@@ -1,2 +1,2 @@
-mod Largest
 mod Places
+mod Totals

@@ -32,7 +32,7 @@ impl Stack {
         ensures value { (serves : ℕ → Bool) (s : List ℕ) → self.first ≡ first serves s → self.last ≡ last serves s → result ≡ is_open serves s step }
         ensures steps { result ≡ (nat_le self.first step && nat_le step self.last) }
     {
-        self.first <= step && step <= self.last
+        (self.first..=self.last).contains(&step)
     }
 
     // In how many steps the stack is open.

@@ -4,7 +4,7 @@ use Rattle.std.proofs.lemmas.Iterator.Consumers.{fold_from_yields_List}
 use Rattle.job.specs.Jobs.{content_of}
 use Rattle.sequences.specs.JobCosts.{open_of}
 use Rattle.sequences.specs.Stacks.{steps}
-use Rattle.measures.proofs.Largest.{largest_is}
+use Rattle.measures.proofs.Totals.{largest_is}
 use Rattle.measures.proofs.measuring.Sequence.peak.Goals as goal
 
 pub returns : goal.returns

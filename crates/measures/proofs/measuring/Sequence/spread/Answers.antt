@@ -1,11 +1,9 @@
 use Rattle.std.proofs.Common.{rules, tests, arith}
-use Rattle.std.proofs.lemmas.Iterator.{YieldsList-from_range}
-use Rattle.std.proofs.lemmas.Iterator.Adapters.{at_most_from_yields_List, fits_from_length}
-use Rattle.std.proofs.lemmas.List.FromFn.{length-range_with_len}
+use Rattle.std.proofs.lemmas.Iterator.Adapters.{fits_from_length}
+use Rattle.measures.proofs.Totals.{few_orders}
 use Rattle.measures.proofs.measuring.Sequence.spread.Goals as goal
 
 pub sum-requires-clause-fits : goal.sum-requires-clause-fits
 sum-requires-clause-fits c =
-    fits_from_length _ _ 65535 _
-    (at_most_from_yields_List (YieldsList-from_range 0 c.orders.result c.orders.result (cc) (omega arith)) (omega (arith, length-range_with_len 0 c.orders.result, c.orders.type_inv)))
+    fits_from_length _ _ 65535 _ (few_orders c.orders.result (cc) c.orders.type_inv)
     c.map.ensures.closure (omega arith) (λ x r q k. search (rules, tests))
