@@ -2,7 +2,7 @@
 ghost use Rattle.job.specs.Jobs.{content_of};
 ghost use Rattle.measures.specs.Measured.{measured};
 ghost use Rattle.sequences.specs.JobCosts.{open_of, peak_of, spread_of, lateness_of};
-ghost use Rattle.sequences.specs.Stacks.{serving, first, last, span, late};
+ghost use Rattle.sequences.specs.Stacks.{serving, first, last, is_open, span, late};
 ghost use Rattle.sets.specs.RowLists.{rows_of};
 ghost use Rattle.std.specs.Prelude.{◌≡◌, ◌≤◌, None, length, slice_index_or};
 
@@ -59,7 +59,7 @@ impl Sequence<'_> {
         ensures value { result ≡ open_of (content_of self.now.job.now) self.now.sheets.now step }
     {
         (0..self.job.orders())
-            .filter(|&order| self.stack(order).is_open(step))
+            .filter(|&order| self.is_open(order, step))
             .count() as u16
     }
 
@@ -73,6 +73,12 @@ impl Sequence<'_> {
         ensures value { result ≡ lateness_of (content_of self.now.job.now) self.now.sheets.now }
     {
         (0..self.job.orders()).map(|order| self.late(order)).sum()
+    }
+
+    fn is_open(&self, order: u16, step: usize) -> bool
+        ensures value { result ≡ is_open (serving (content_of self.now.job.now).rows order) self.now.sheets.now step }
+    {
+        self.stack(order).is_open(step)
     }
 
     // In how many steps an order's stack is open.
