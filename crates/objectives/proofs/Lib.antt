@@ -1,3 +1,2 @@
-pub mod BestValues
 pub mod PeakPairs
 pub mod Preorder

@@ -17,13 +17,17 @@ add_cost cost figure = cond (nat_lt (cost + figure) dearest) (cost + figure) dea
 abbrev pub add_counts : ℕ → ℕ → ℕ
 add_counts n k = (n + k) % count_modulus
 
--- extend takes the larger, join the smaller
-abbrev pub peak_ops : Ops ℕ
-peak_ops = record { start = 0; extend = max; join = min }
+-- costs that begin at 0: extend raises them, join takes the smaller
+abbrev pub cost_ops : (ℕ → ℕ → ℕ) → Ops ℕ
+cost_ops raised = record { start = 0; extend = raised; join = min }
 
--- extend adds, join takes the smaller
+-- extend takes the larger
+abbrev pub peak_ops : Ops ℕ
+peak_ops = cost_ops max
+
+-- extend adds
 abbrev pub total_ops : Ops ℕ
-total_ops = record { start = 0; extend = add_cost; join = min }
+total_ops = cost_ops add_cost
 
 -- extend changes nothing, join adds
 abbrev pub count_ops : Ops ℕ

@@ -8,7 +8,7 @@ pub mod reading;
 pub struct Best;
 
 // A cost, and how many sequences have it, modulo 2^64.
-#[derive(Clone, Copy)]
+#[derive(Clone, Copy, PartialEq, Eq, Debug)]
 pub struct CostCount {
     cost: u32,
     count: u64,

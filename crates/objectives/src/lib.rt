@@ -2,6 +2,7 @@
 #![tactic(auto)]
 
 pub mod best;
+pub mod cost;
 pub mod count;
 pub mod dearness;
 pub mod objective;
@@ -10,6 +11,7 @@ pub mod peak;
 pub mod total;
 
 pub use best::{Best, CostCount};
+pub use cost::Cost;
 pub use count::Count;
 pub use dearness::at_most_as_dear;
 pub use objective::{Objective, Picking};

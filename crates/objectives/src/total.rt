@@ -1,41 +1,18 @@
 // The sum of a sequence's figures; of two values the smaller is kept.
-ghost use Rattle.objectives.specs.Objectives.{total_ops};
-ghost use Rattle.std.specs.Prelude.{ℕ};
+ghost use Rattle.objectives.specs.Objectives.{add_cost};
 ghost use Rattle.std.proofs.Common.{rules};
 
-use crate::objective::{Objective, Picking};
+use crate::cost::Cost;
 
 #[derive(Drop)]
 pub struct Total;
 
-impl Objective for Total {
-    type Value = u32;
+impl Cost for Total {
+    ghost raised = { λ _. add_cost };
 
-    ghost Means = { ℕ };
+    ghost rises = { Prim.search rules };
 
-    ghost means = { λ v. v };
-
-    ghost ops = { λ _. total_ops };
-
-    ghost lawful = { Prim.search rules };
-
-    fn start(&self) -> u32 {
-        0
-    }
-
-    fn extend(&self, value: u32, figure: u16) -> u32 {
-        value.saturating_add(u32::from(figure))
-    }
-
-    fn join(&self, one: u32, other: u32) -> u32 {
-        one.min(other)
-    }
-}
-
-impl Picking for Total {
-    ghost picks = { Prim.search rules };
-
-    fn keeps_first(&self, one: u32, other: u32) -> bool {
-        one <= other
+    fn raise(&self, cost: u32, figure: u16) -> u32 {
+        cost.saturating_add(u32::from(figure))
     }
 }

@@ -4,7 +4,9 @@ ghost use Rattle.objectives.specs.Objectives.{Costed, best_ops};
 ghost use Rattle.std.proofs.Common.{rules};
 
 use super::{Best, CostCount};
+use crate::cost::Cost;
 use crate::objective::Objective;
+use crate::total::Total;
 use std::cmp::Ordering;
 
 impl Objective for Best {
@@ -23,7 +25,7 @@ impl Objective for Best {
     }
 
     fn extend(&self, value: CostCount, figure: u16) -> CostCount {
-        let cost = value.cost.saturating_add(u32::from(figure));
+        let cost = Total.raise(value.cost, figure);
         let count = if cost < u32::MAX { value.count } else { 0 };
         CostCount { cost, count }
     }

@@ -24,6 +24,6 @@ impl CostCount {
         ensures value { Decides result (self ≡ other) }
         ensures meaning { Decides result (costed_of self ≡ costed_of other) }
     {
-        other.cost == self.cost && other.count == self.count
+        self == other
     }
 }
