@@ -29,12 +29,10 @@ impl<O: Objective, R: Rule> Question<O, R> {
     {
         let mut value = self.objective.start();
         let mut done = SheetSet { bits: 0 };
-        for sheet in list {
-            let Some(figure) = self.rule.ask(done, *sheet).figure else {
-                return None;
-            };
+        for &sheet in list {
+            let figure = self.rule.ask(done, sheet).figure?;
             value = self.objective.extend(value, figure);
-            done = done.with(*sheet);
+            done = done.with(sheet);
         }
         Some(value)
     }

@@ -14,7 +14,7 @@ use job::Job;
 use objectives::{Best, CostCount, Count, Peak, Total};
 
 // Nothing where a step is forbidden.
-#[derive(Clone, Copy)]
+#[derive(Clone, Copy, PartialEq, Eq, Debug)]
 pub struct StepCosts {
     pub peak: Option<u32>,
     pub spread: Option<u32>,
