@@ -63,50 +63,72 @@ FORBIDDEN = {
 SHORT = {"A": [[], [2], [0, 1], [2, 1]], "ONE": [[]], "LARGE": [[], [15], UP[:15], UP[:0:-1]]}
 
 
+HEAD = """// Cases for what sequences cost, with the answers of a second program. Written by tools/make_cost_cases.py.
+
+// A sequence, and what it costs.
+pub struct Case {
+    pub list: &'static [u8],
+    pub peak: u16,
+    pub spread: u32,
+    pub lateness: u32,
+}
+
+// A job, and lists of its sheets.
+pub struct Cases {
+    pub file: &'static [u8],
+    pub sequences: &'static [Case],
+    // no sequences, with a step that no rule permits
+    pub forbidden: &'static [&'static [u8]],
+    // no sequences, since they end too early
+    pub short: &'static [&'static [u8]],
+}
+"""
+
+
 def in_list(sheets):
     return "&[%s]" % ", ".join(map(str, sheets))
 
 
-def job_lines(name, what, rows, dues):
+def file_line(rows, dues):
     data = jobs.make(rows, dues, [bytes([33 + order]) for order in range(len(dues))])
     jobs.read(data)
-    text = "".join("\\x%02x" % byte for byte in data)
-    return ["", f"// {what}", f'pub const {name}_FILE: &[u8; {len(data)}] = b"{text}";']
+    return '    file: b"%s",' % "".join("\\x%02x" % byte for byte in data)
 
 
-def cost_lines(name, rows, dues, sequences):
-    lines = ["", f"pub const {name}: [Case; {len(sequences)}] = ["]
+def case_lines(rows, dues, sequences):
+    yield "    sequences: &["
     for sequence in sequences:
         assert costs.is_sequence(rows, sequence)
         answers = [cost(rows, dues, sequence) for cost in costs.COSTS]
-        lines.append("    (%s, %d, %d, %d)," % (in_list(sequence), *answers))
-    return lines + ["];"]
+        yield "        Case { list: %s, peak: %d, spread: %d, lateness: %d }," % (in_list(sequence), *answers)
+    yield "    ],"
 
 
-def other_lines(name, what, rows, lists):
-    lines = ["", f"// Lists that are no sequences of it, {what}", f"pub const {name}: [&'static [u8]; {len(lists)}] = ["]
+def other_lines(field, rows, lists):
+    yield f"    {field}: &["
     for sheets in lists:
         assert not costs.is_sequence(rows, sheets)
-        lines.append("    %s," % in_list(sheets))
-    return lines + ["];"]
+        yield "        %s," % in_list(sheets)
+    yield "    ],"
+
+
+def job_lines(name, what, rows, dues, sequences):
+    return [
+        f"// {what}",
+        f"pub const {name}: Cases = Cases {{",
+        file_line(rows, dues),
+        *case_lines(rows, dues, sequences),
+        *other_lines("forbidden", rows, FORBIDDEN.get(name, [])),
+        *other_lines("short", rows, SHORT.get(name, [])),
+        "};",
+    ]
 
 
 def main():
-    out = [
-        "// Cases for what sequences cost, with the answers of a second program. Written by tools/make_cost_cases.py.",
-        "",
-        "// A list of sheets, and its peak, spread and lateness.",
-        "pub type Case = (&'static [u8], u16, u32, u32);",
-    ]
-    for name, what, rows, dues, sequences in table():
-        out += job_lines(name, what, rows, dues)
-        out += cost_lines(name, rows, dues, sequences)
-        if name in FORBIDDEN:
-            out += other_lines(name + "_FORBIDDEN", "with a step that no rule permits", rows, FORBIDDEN[name])
-        if name in SHORT:
-            out += other_lines(name + "_SHORT", "since they end too early", rows, SHORT[name])
     with open("crates/costtests/src/cases.rt", "w", encoding="utf-8") as file:
-        file.write("\n".join(out) + "\n")
+        file.write(HEAD)
+        for job in table():
+            file.write("\n" + "\n".join(job_lines(*job)) + "\n")
 
 
 if __name__ == "__main__":

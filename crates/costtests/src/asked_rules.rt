@@ -1,6 +1,6 @@
 // Tests on a job of three sheets: rows 3, 6 and 1, dues 2, none and 3.
-use crate::cases::A_FILE;
-use job::Job;
+use crate::cases::A;
+use crate::tests::read;
 use rules::{Due, Limit, Open, Rule, within_places};
 use sets::{OrderSet, Rows, SheetSet};
 use std::test::Fail;
@@ -52,9 +52,7 @@ fn figures_of_limits(rt: HostRuntime) {
 
 #[test]
 fn rules_of_a_job(rt: HostRuntime) -> Result<(), Fail> {
-    let Ok(job) = Job::read(A_FILE.to_vec(rt.alloc())?) else {
-        return Err(Fail::new("the job is refused"));
-    };
+    let job = read(rt.alloc(), &A)?;
     let due = Due::of(&job);
     assert_eq!(rt; due.sheets(), 3);
     assert!(rt; along(&due) == [Some(0), Some(0), Some(1)]);

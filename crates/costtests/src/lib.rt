@@ -11,22 +11,15 @@ mod objective_ends;
 
 #[cfg(test)]
 mod tests {
-    use crate::cases::{
-        A, A_FILE, A_FORBIDDEN, A_SHORT, B, B_FILE, Case, FIVE, FIVE_FILE, FULL, FULL_FILE, LARGE,
-        LARGE_FILE, LARGE_FORBIDDEN, LARGE_SHORT, ONE, ONE_FILE, ONE_FORBIDDEN, ONE_SHORT, SAME,
-        SAME_FILE,
-    };
+    use crate::cases::{A, B, Case, Cases, FIVE, FULL, LARGE, ONE, SAME};
     use job::Job;
     use measures::measure;
-    use questions::step_costs;
+    use questions::{StepCosts, step_costs};
     use std::alloc::Global;
     use std::test::Fail;
 
-    fn read(heap: Global, file: &[u8]) -> Result<Job, Fail> {
-        match Job::read(file.to_vec(heap)?) {
-            Ok(job) => Ok(job),
-            Err(_) => Err(Fail::new("the job is refused")),
-        }
+    pub(crate) fn read(heap: Global, cases: &Cases) -> Result<Job, Fail> {
+        Job::read(cases.file.to_vec(heap)?).map_err(|_| Fail::new("the job is refused"))
     }
 
     // The test fails where this does not hold, and names the case.
@@ -39,58 +32,43 @@ mod tests {
     }
 
     // A sequence costs what the table says.
-    fn measured(at: usize, job: &Job, case: Case) -> Result<(), Fail> {
-        let (list, peak, spread, lateness) = case;
-        let Some(found) = measure(job, list) else {
+    fn measured(at: usize, job: &Job, case: &Case) -> Result<(), Fail> {
+        let Some(found) = measure(job, case.list) else {
             return Err(Fail::new(format_args!("case {at} is not taken for a sequence")));
         };
-        check(found.peak == peak, at)?;
-        check(found.spread == spread, at)?;
-        check(found.lateness == lateness, at)
+        check(found.peak == case.peak, at)?;
+        check(found.spread == case.spread, at)?;
+        check(found.lateness == case.lateness, at)
     }
 
     // Found step by step, it costs the same. It counts once, and where a place is missing not at all.
-    fn stepped(at: usize, job: &Job, case: Case) -> Result<(), Fail> {
-        let (list, peak, spread, lateness) = case;
-        let found = step_costs(job, list, peak);
-        check(found.peak == Some(u32::from(peak)), at)?;
-        check(found.spread == Some(spread), at)?;
-        check(found.lateness == Some(lateness), at)?;
+    fn stepped(at: usize, job: &Job, case: &Case) -> Result<(), Fail> {
+        let found = step_costs(job, case.list, case.peak);
+        check(found.peak == Some(u32::from(case.peak)), at)?;
+        check(found.spread == Some(case.spread), at)?;
+        check(found.lateness == Some(case.lateness), at)?;
         check(found.count == Some(1), at)?;
         let Some(best) = found.best else {
             return Err(Fail::new(format_args!("case {at} is forbidden")));
         };
-        check(best.cost() == spread && best.count() == 1, at)?;
-        check(
-            step_costs(job, list, peak.saturating_sub(1)).count == None,
-            at,
-        )
-    }
-
-    fn costs(job: &Job, cases: &[Case]) -> Result<(), Fail> {
-        for (at, case) in cases.iter().enumerate() {
-            measured(at, job, *case)?;
-            stepped(at, job, *case)?;
-        }
-        Ok(())
+        check(best.cost() == case.spread && best.count() == 1, at)?;
+        let fewer = step_costs(job, case.list, case.peak.saturating_sub(1));
+        check(fewer.count == None, at)
     }
 
     // No question has a value for a list with a step that no rule permits.
     fn unvalued(at: usize, job: &Job, list: &[u8]) -> Result<(), Fail> {
-        let found = step_costs(job, list, 65535);
-        check(found.peak == None && found.spread == None, at)?;
-        check(found.lateness == None && found.count == None, at)?;
-        check(found.best.is_none(), at)
+        let nothing = StepCosts {
+            peak: None,
+            spread: None,
+            lateness: None,
+            best: None,
+            count: None,
+        };
+        check(step_costs(job, list, 65535) == nothing, at)
     }
 
-    fn forbidden(job: &Job, lists: &[&[u8]]) -> Result<(), Fail> {
-        for (at, list) in lists.iter().enumerate() {
-            unvalued(at, job, *list)?;
-        }
-        unmeasured(job, lists)
-    }
-
-    // What is no sequence has no costs.
+    // Lists that are no sequences have no costs.
     fn unmeasured(job: &Job, lists: &[&[u8]]) -> Result<(), Fail> {
         for (at, list) in lists.iter().enumerate() {
             check(measure(job, *list).is_none(), at)?;
@@ -98,53 +76,51 @@ mod tests {
         Ok(())
     }
 
-    // Sequences, lists with a forbidden step, and lists that end too early.
-    fn all_lists(
-        job: &Job,
-        cases: &[Case],
-        refused: &[&[u8]],
-        short: &[&[u8]],
-    ) -> Result<(), Fail> {
-        costs(job, cases)?;
-        forbidden(job, refused)?;
-        unmeasured(job, short)
+    fn tried(heap: Global, cases: &Cases) -> Result<(), Fail> {
+        let job = read(heap, cases)?;
+        for (at, case) in cases.sequences.iter().enumerate() {
+            measured(at, &job, case)?;
+            stepped(at, &job, case)?;
+        }
+        for (at, list) in cases.forbidden.iter().enumerate() {
+            unvalued(at, &job, *list)?;
+        }
+        unmeasured(&job, cases.forbidden)?;
+        unmeasured(&job, cases.short)
     }
 
     #[test]
     fn job_a(rt: HostRuntime) -> Result<(), Fail> {
-        let job = read(rt.alloc(), A_FILE)?;
-        all_lists(&job, &A, &A_FORBIDDEN, &A_SHORT)
+        tried(rt.alloc(), &A)
     }
 
     #[test]
     fn job_b(rt: HostRuntime) -> Result<(), Fail> {
-        costs(&read(rt.alloc(), B_FILE)?, &B)
+        tried(rt.alloc(), &B)
     }
 
     #[test]
     fn one_sheet(rt: HostRuntime) -> Result<(), Fail> {
-        let job = read(rt.alloc(), ONE_FILE)?;
-        all_lists(&job, &ONE, &ONE_FORBIDDEN, &ONE_SHORT)
+        tried(rt.alloc(), &ONE)
     }
 
     #[test]
     fn the_same_order(rt: HostRuntime) -> Result<(), Fail> {
-        costs(&read(rt.alloc(), SAME_FILE)?, &SAME)
+        tried(rt.alloc(), &SAME)
     }
 
     #[test]
     fn five_sheets(rt: HostRuntime) -> Result<(), Fail> {
-        costs(&read(rt.alloc(), FIVE_FILE)?, &FIVE)
+        tried(rt.alloc(), &FIVE)
     }
 
     #[test]
     fn large_job(rt: HostRuntime) -> Result<(), Fail> {
-        let job = read(rt.alloc(), LARGE_FILE)?;
-        all_lists(&job, &LARGE, &LARGE_FORBIDDEN, &LARGE_SHORT)
+        tried(rt.alloc(), &LARGE)
     }
 
     #[test]
     fn full_job(rt: HostRuntime) -> Result<(), Fail> {
-        costs(&read(rt.alloc(), FULL_FILE)?, &FULL)
+        tried(rt.alloc(), &FULL)
     }
 }

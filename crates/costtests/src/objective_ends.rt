@@ -1,7 +1,7 @@
 // Tests at the ends: figures of 0 and 65,535, costs next to 4,294,967,295, and counts next to 2^64.
 use objectives::{Best, CostCount, Count, Objective, Peak, Picking, Total, at_most_as_dear};
 
-const TOP: u32 = 4294967295;
+const TOP: u32 = u32::MAX;
 
 #[test]
 fn peaks(rt: HostRuntime) {
@@ -47,7 +47,7 @@ fn kept(rt: HostRuntime) {
 
 #[test]
 fn counts(rt: HostRuntime) {
-    let top = 18446744073709551615;
+    let top = u64::MAX;
     assert_eq!(rt; Count.start(), 1);
     assert!(rt; Count.extend(7, 65535) == 7 && Count.extend(top, 0) == top);
     assert!(rt; Count.join(3, 4) == 7 && Count.join(top, 0) == top);
