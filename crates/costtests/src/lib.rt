@@ -68,25 +68,26 @@ mod tests {
         check(step_costs(job, list, 65535) == nothing, at)
     }
 
-    // Lists that are no sequences have no costs.
-    fn unmeasured(job: &Job, lists: &[&[u8]]) -> Result<(), Fail> {
-        for (at, list) in lists.iter().enumerate() {
-            check(measure(job, *list).is_none(), at)?;
-        }
-        Ok(())
+    // A list that is no sequence has no costs.
+    fn unmeasured(at: usize, job: &Job, list: &[u8]) -> Result<(), Fail> {
+        check(measure(job, list).is_none(), at)
     }
 
     fn tried(heap: Global, cases: &Cases) -> Result<(), Fail> {
         let job = read(heap, cases)?;
-        for (at, case) in cases.sequences.iter().enumerate() {
+        cases.sequences.iter().enumerate().try_for_each(|(at, case)| {
             measured(at, &job, case)?;
-            stepped(at, &job, case)?;
-        }
-        for (at, list) in cases.forbidden.iter().enumerate() {
-            unvalued(at, &job, *list)?;
-        }
-        unmeasured(&job, cases.forbidden)?;
-        unmeasured(&job, cases.short)
+            stepped(at, &job, case)
+        })?;
+        cases.forbidden.iter().enumerate().try_for_each(|(at, &list)| {
+            unvalued(at, &job, list)?;
+            unmeasured(at, &job, list)
+        })?;
+        cases
+            .short
+            .iter()
+            .enumerate()
+            .try_for_each(|(at, &list)| unmeasured(at, &job, list))
     }
 
     #[test]
