@@ -1,16 +1,11 @@
 -- The number, the layer and the place of every refusal: one line for each case of each fault.
 use Rattle.std.specs.Prelude.{ℕ}
-use Rattle.faults.specs.declared.layer.Layer.{Layer}
 use Rattle.faults.specs.declared.layer.Layer.TheVariants as layer
+use Rattle.faults.specs.declared.refusal.Refusal.{Refusal}
 use Rattle.faults.specs.declared.file.FileFault.{FileFault}
 use Rattle.faults.specs.declared.file.FileFault.TheVariants.{Short, Edition, Length, Sheets, Orders, RowsOutside, RecordsOutside}
 use Rattle.faults.specs.declared.job.JobFault.{JobFault}
 use Rattle.faults.specs.declared.job.JobFault.TheVariants.{File, EmptyRow, StrangeOrder, Unserved, DueTooLate, LabelOutside, LabelUnprintable, LabelTaken}
-
-pub record Refusal : Type 0 where
-  pub number : ℕ
-  pub layer : Layer
-  pub place : ℕ
 
 abbrev pub in_file : ℕ → ℕ → Refusal
 in_file number place = record { number = number; layer = layer.File; place = place }

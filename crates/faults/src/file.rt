@@ -1,10 +1,10 @@
 // Why a byte string is no job file: what its header says, and where its parts lie.
 ghost use Rattle.faults.specs.Refusals.{file_refusal};
-ghost use Rattle.std.specs.Prelude.{◌≡◌};
 
-use crate::layer::Layer;
+use crate::fault::Fault;
+use crate::refusal::Refusal;
 
-#[derive(Clone, Copy)]
+#[derive(Clone, Copy, Debug, PartialEq, Eq)]
 pub enum FileFault {
     // fewer bytes than a header has
     Short { bytes: usize },
@@ -22,38 +22,18 @@ pub enum FileFault {
     RecordsOutside,
 }
 
-impl FileFault {
-    pub fn number(self) -> u8
-        ensures number { result ≡ (file_refusal self).number }
-    {
-        match self {
-            FileFault::Short { .. } => 1,
-            FileFault::Edition { .. } => 2,
-            FileFault::Length { .. } => 3,
-            FileFault::Sheets { .. } => 4,
-            FileFault::Orders { .. } => 5,
-            FileFault::RowsOutside => 6,
-            FileFault::RecordsOutside => 6,
-        }
-    }
+impl Fault for FileFault {
+    ghost refusal_of = { file_refusal };
 
-    pub fn layer(self) -> Layer
-        ensures layer { result ≡ (file_refusal self).layer }
-    {
-        Layer::File
-    }
-
-    pub fn place(self) -> usize
-        ensures place { result ≡ (file_refusal self).place }
-    {
+    fn refusal(self) -> Refusal {
         match self {
-            FileFault::Short { bytes } => bytes,
-            FileFault::Edition { edition } => usize::from(edition),
-            FileFault::Length { bytes } => bytes,
-            FileFault::Sheets { sheets } => usize::from(sheets),
-            FileFault::Orders { orders } => usize::from(orders),
-            FileFault::RowsOutside => 6,
-            FileFault::RecordsOutside => 8,
+            FileFault::Short { bytes } => Refusal::in_file(1, bytes),
+            FileFault::Edition { edition } => Refusal::in_file(2, usize::from(edition)),
+            FileFault::Length { bytes } => Refusal::in_file(3, bytes),
+            FileFault::Sheets { sheets } => Refusal::in_file(4, usize::from(sheets)),
+            FileFault::Orders { orders } => Refusal::in_file(5, usize::from(orders)),
+            FileFault::RowsOutside => Refusal::in_file(6, 6),
+            FileFault::RecordsOutside => Refusal::in_file(6, 8),
         }
     }
 }

@@ -3,10 +3,11 @@ ghost use Rattle.faults.specs.Refusals.{job_refusal};
 ghost use Rattle.faults.specs.declared.job.JobFault.TheVariants.{File};
 ghost use Rattle.std.specs.Prelude.{◌≡◌};
 
+use crate::fault::Fault;
 use crate::file::FileFault;
-use crate::layer::Layer;
+use crate::refusal::Refusal;
 
-#[derive(Clone, Copy)]
+#[derive(Clone, Copy, Debug, PartialEq, Eq)]
 pub enum JobFault {
     // the bytes are no job file
     File(FileFault),
@@ -34,43 +35,19 @@ impl From<FileFault> for JobFault {
     }
 }
 
-impl JobFault {
-    pub fn number(self) -> u8
-        ensures number { result ≡ (job_refusal self).number }
-    {
-        match self {
-            JobFault::File(fault) => fault.number(),
-            JobFault::EmptyRow { .. } => 11,
-            JobFault::StrangeOrder { .. } => 12,
-            JobFault::Unserved { .. } => 13,
-            JobFault::DueTooLate { .. } => 14,
-            JobFault::LabelOutside { .. } => 15,
-            JobFault::LabelUnprintable { .. } => 16,
-            JobFault::LabelTaken { .. } => 17,
-        }
-    }
+impl Fault for JobFault {
+    ghost refusal_of = { job_refusal };
 
-    pub fn layer(self) -> Layer
-        ensures layer { result ≡ (job_refusal self).layer }
-    {
+    fn refusal(self) -> Refusal {
         match self {
-            JobFault::File(fault) => fault.layer(),
-            _ => Layer::Job,
-        }
-    }
-
-    pub fn place(self) -> usize
-        ensures place { result ≡ (job_refusal self).place }
-    {
-        match self {
-            JobFault::File(fault) => fault.place(),
-            JobFault::EmptyRow { sheet } => usize::from(sheet),
-            JobFault::StrangeOrder { sheet } => usize::from(sheet),
-            JobFault::Unserved { order } => usize::from(order),
-            JobFault::DueTooLate { order } => usize::from(order),
-            JobFault::LabelOutside { order } => usize::from(order),
-            JobFault::LabelUnprintable { order } => usize::from(order),
-            JobFault::LabelTaken { order } => usize::from(order),
+            JobFault::File(fault) => fault.refusal(),
+            JobFault::EmptyRow { sheet } => Refusal::in_job(11, sheet),
+            JobFault::StrangeOrder { sheet } => Refusal::in_job(12, sheet),
+            JobFault::Unserved { order } => Refusal::in_job(13, order),
+            JobFault::DueTooLate { order } => Refusal::in_job(14, order),
+            JobFault::LabelOutside { order } => Refusal::in_job(15, order),
+            JobFault::LabelUnprintable { order } => Refusal::in_job(16, order),
+            JobFault::LabelTaken { order } => Refusal::in_job(17, order),
         }
     }
 }

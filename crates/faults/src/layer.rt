@@ -1,6 +1,6 @@
 // The layers of the planner that can refuse.
 
-#[derive(Clone, Copy, PartialEq, Eq)]
+#[derive(Clone, Copy, Debug, PartialEq, Eq)]
 pub enum Layer {
     File,
     Job,
