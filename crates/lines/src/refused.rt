@@ -1,13 +1,12 @@
 // The one line that a program prints for a refusal.
 ghost use Rattle.lines.specs.Lines.{refused_line};
-ghost use Rattle.lines.specs.Texts.{bytes_of};
 ghost use Rattle.std.specs.Prelude.{◌≡◌, ◌++◌, IfOk};
 
 use crate::text::Text;
 use std::alloc::AllocError;
 
 pub fn refused_line(text: Text, number: u8, place: usize) -> Result<Text, AllocError>
-    ensures value { IfOk result (λ t. bytes_of t ≡ bytes_of text ++ refused_line number place) }
+    ensures value { IfOk result (λ t. t ≡ text ++ refused_line number place) }
 {
     text.begin(b"refused")?
         .number(usize::from(number))?

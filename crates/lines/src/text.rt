@@ -1,72 +1,76 @@
 // A text that grows word by word. Where memory fails, the text is dropped and the error is all that is left.
-ghost use Rattle.lines.specs.Texts.{bytes_of};
 ghost use Rattle.std.specs.Prelude.{◌≡◌, [], ◌∷◌, ◌++◌, IfOk, decimal};
 
 use std::alloc::{AllocError, Global};
+use std::marker::Model;
 
-const SPACE: u8 = 32;
+const SPACE: u8 = b' ';
 
-const NEWLINE: u8 = 10;
+const NEWLINE: u8 = b'\n';
 
 #[derive(Drop)]
 pub struct Text {
     bytes: Vec<u8>,
-    heap: Global,
+}
+
+impl Model for Text {
+    ghost use Rattle.std.specs.Prelude.{ℕ, List};
+
+    ghost Value = { List ℕ };
+
+    ghost view = { λ text. text.bytes.items };
 }
 
 impl Text {
     pub fn new(heap: Global) -> Text
-        ensures value { bytes_of result ≡ [] }
+        ensures value { result ≡ [] }
     {
         Text {
             bytes: Vec::new(heap),
-            heap,
         }
     }
 
     // The first word of a line.
-    pub fn begin(self, word: &[u8]) -> Result<Text, AllocError>
-        ensures value { IfOk result (λ t. bytes_of t ≡ bytes_of self ++ word.now) }
+    pub fn begin(mut self, word: &[u8]) -> Result<Text, AllocError>
+        ensures value { IfOk result (λ t. t ≡ self ++ word.now) }
     {
-        let Text { mut bytes, heap } = self;
-        bytes.extend_from_slice(word)?;
-        Ok(Text { bytes, heap })
+        self.bytes.extend_from_slice(word)?;
+        Ok(self)
     }
 
     // One word more in the line.
     pub fn word(self, word: &[u8]) -> Result<Text, AllocError>
-        ensures value { IfOk result (λ t. bytes_of t ≡ bytes_of self ++ (32 ∷ word.now)) }
+        ensures value { IfOk result (λ t. t ≡ self ++ (32 ∷ word.now)) }
     {
         self.byte(SPACE)?.begin(word)
     }
 
     // A number as one word more.
     pub fn number(self, n: usize) -> Result<Text, AllocError>
-        ensures value { IfOk result (λ t. bytes_of t ≡ bytes_of self ++ (32 ∷ decimal n)) }
+        ensures value { IfOk result (λ t. t ≡ self ++ (32 ∷ decimal n)) }
     {
-        let digits = n.to_string(self.heap)?;
+        let digits = n.to_string(*self.bytes.allocator())?;
         self.word(digits.as_bytes())
     }
 
     // The end of the line.
     pub fn end(self) -> Result<Text, AllocError>
-        ensures value { IfOk result (λ t. bytes_of t ≡ bytes_of self ++ (10 ∷ [])) }
+        ensures value { IfOk result (λ t. t ≡ self ++ (10 ∷ [])) }
     {
         self.byte(NEWLINE)
     }
 
-    fn byte(self, byte: u8) -> Result<Text, AllocError>
-        ensures value { IfOk result (λ t. bytes_of t ≡ bytes_of self ++ (byte ∷ [])) }
+    fn byte(mut self, byte: u8) -> Result<Text, AllocError>
+        ensures value { IfOk result (λ t. t ≡ self ++ (byte ∷ [])) }
     {
-        let Text { mut bytes, heap } = self;
-        bytes.push(byte)?;
-        Ok(Text { bytes, heap })
+        self.bytes.push(byte)?;
+        Ok(self)
     }
 
     pub fn into_bytes(self) -> Vec<u8>
-        ensures value { result.items ≡ bytes_of self }
+        ensures value { result.items ≡ self }
     {
-        let Text { bytes, .. } = self;
+        let Text { bytes } = self;
         bytes
     }
 }
