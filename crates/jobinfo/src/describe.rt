@@ -2,7 +2,6 @@
 ghost use Rattle.job.specs.Jobs.{content_of};
 ghost use Rattle.jobinfo.specs.Wording.{job_text, labels_of, order_line, sheet_line};
 ghost use Rattle.lines.specs.Lines.{spaced};
-ghost use Rattle.lines.specs.Texts.{bytes_of};
 ghost use Rattle.std.specs.List.{range_with_len, flat_map};
 ghost use Rattle.std.specs.Prelude.{◌≡◌, ◌++◌, length, IfOk};
 
@@ -12,7 +11,7 @@ use std::alloc::AllocError;
 
 // The whole job.
 pub fn describe(text: Text, job: &Job) -> Result<Text, AllocError>
-    ensures value { IfOk result (λ t. bytes_of t ≡ bytes_of text ++ job_text (content_of job.now)) }
+    ensures value { IfOk result (λ t. t ≡ text ++ job_text (content_of job.now)) }
 {
     let text = text
         .begin(b"job")?
@@ -24,7 +23,7 @@ pub fn describe(text: Text, job: &Job) -> Result<Text, AllocError>
 }
 
 fn sheet_lines(text: Text, job: &Job) -> Result<Text, AllocError>
-    ensures value { IfOk result (λ t. bytes_of t ≡ bytes_of text ++ flat_map (sheet_line (content_of job.now)) (range_with_len 0 (length (content_of job.now).rows))) }
+    ensures value { IfOk result (λ t. t ≡ text ++ flat_map (sheet_line (content_of job.now)) (range_with_len 0 (length (content_of job.now).rows))) }
 {
     let mut text = text;
     for sheet in 0..job.sheets() {
@@ -35,14 +34,14 @@ fn sheet_lines(text: Text, job: &Job) -> Result<Text, AllocError>
 
 // A sheet with the labels of the orders that it serves.
 fn sheet_line(text: Text, job: &Job, sheet: u8) -> Result<Text, AllocError>
-    ensures value { IfOk result (λ t. bytes_of t ≡ bytes_of text ++ sheet_line (content_of job.now) sheet) }
+    ensures value { IfOk result (λ t. t ≡ text ++ sheet_line (content_of job.now) sheet) }
 {
     let text = text.begin(b"sheet")?.number(usize::from(sheet))?;
     label_words(text, job, sheet)?.end()
 }
 
 fn label_words(text: Text, job: &Job, sheet: u8) -> Result<Text, AllocError>
-    ensures value { IfOk result (λ t. bytes_of t ≡ bytes_of text ++ flat_map spaced (labels_of (content_of job.now) sheet)) }
+    ensures value { IfOk result (λ t. t ≡ text ++ flat_map spaced (labels_of (content_of job.now) sheet)) }
 {
     let row = job.row(sheet);
     let mut text = text;
@@ -55,7 +54,7 @@ fn label_words(text: Text, job: &Job, sheet: u8) -> Result<Text, AllocError>
 }
 
 fn order_lines(text: Text, job: &Job) -> Result<Text, AllocError>
-    ensures value { IfOk result (λ t. bytes_of t ≡ bytes_of text ++ flat_map (order_line (content_of job.now)) (range_with_len 0 (length (content_of job.now).labels))) }
+    ensures value { IfOk result (λ t. t ≡ text ++ flat_map (order_line (content_of job.now)) (range_with_len 0 (length (content_of job.now).labels))) }
 {
     let mut text = text;
     for order in 0..job.orders() {
@@ -66,7 +65,7 @@ fn order_lines(text: Text, job: &Job) -> Result<Text, AllocError>
 
 // An order with its label and its due step.
 fn order_line(text: Text, job: &Job, order: u16) -> Result<Text, AllocError>
-    ensures value { IfOk result (λ t. bytes_of t ≡ bytes_of text ++ order_line (content_of job.now) order) }
+    ensures value { IfOk result (λ t. t ≡ text ++ order_line (content_of job.now) order) }
 {
     let text = text
         .begin(b"order")?

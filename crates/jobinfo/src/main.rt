@@ -4,7 +4,7 @@
 mod answer;
 mod describe;
 
-use answer::answer;
+use answer::{Printed, answer};
 use std::io;
 use std::io::{Read, Write};
 use std::process::ExitCode;
@@ -15,11 +15,10 @@ const MOST_INPUT: u64 = 8192;
 fn main(rt: HostRuntime) -> io::Result<ExitCode> {
     let mut input = Vec::new(rt.alloc());
     rt.stdin().take(MOST_INPUT).read_to_end(&mut input)?;
-    let printed = answer(rt.alloc(), input)?;
-    rt.stdout().write_all(&printed.text)?;
-    if printed.refused {
-        Ok(ExitCode::FAILURE)
-    } else {
-        Ok(ExitCode::SUCCESS)
-    }
+    let (text, status) = match answer(rt.alloc(), input)? {
+        Printed::Taken(text) => (text, ExitCode::SUCCESS),
+        Printed::Refused(text) => (text, ExitCode::FAILURE),
+    };
+    rt.stdout().write_all(&text)?;
+    Ok(status)
 }

@@ -1,8 +1,7 @@
-use Rattle.std.proofs.Common.{◌≡◌, ◌++◌, map, length, filter, sym, ap, ◌∙◌, ap₂, arith}
+use Rattle.std.proofs.Common.{◌≡◌, ◌++◌, map, length, filter, sym, ◌∙◌, ap₂, arith}
 use Rattle.std.specs.List.{range_with_len, flat_map}
 use Rattle.job.specs.Jobs.{content_of}
 use Rattle.lines.specs.Lines.{spaced}
-use Rattle.lines.specs.Texts.{bytes_of}
 use Rattle.sets.specs.Bits.{has}
 use Rattle.sets.specs.Orders.{members}
 use Rattle.jobinfo.specs.Wording.{label_of}
@@ -17,14 +16,14 @@ loop-order-preserved c =
     let order = c.loop-order.order in
     elim c.if-has.branch [
       | then-has+in_ok-text w ↦
-          ap bytes_of w.text-is
+          w.text-is
           ∙ (w.in_ok-text.ensures.value
           ∙ (ap₂ (λ bs word. bs ++ spaced word) c.loop-order.invariant w.label.ensures.value
-          ∙ words_more spaced label test (bytes_of c.args.text) order (sym c.has.ensures.value ∙ w.if-has.true)))
+          ∙ words_more spaced label test c.args.text order (sym c.has.ensures.value ∙ w.if-has.true)))
       | else-has w ↦
-          ap bytes_of w.text-is
+          w.text-is
           ∙ (c.loop-order.invariant
-          ∙ words_same spaced label test (bytes_of c.args.text) order (sym c.has.ensures.value ∙ w.if-has.false))
+          ∙ words_same spaced label test c.args.text order (sym c.has.ensures.value ∙ w.if-has.false))
     ]
 
 pub returns : goal.returns
@@ -34,6 +33,6 @@ returns c =
     record {
       value =
           c.loop-order.invariant
-          ∙ ap₂ (λ row n. bytes_of c.args.text ++ flat_map spaced (map (label_of content) (filter (has row) (range_with_len 0 n))))
+          ∙ ap₂ (λ row n. c.args.text ++ flat_map spaced (map (label_of content) (filter (has row) (range_with_len 0 n))))
           c.row-row.ensures.value all;
     }
