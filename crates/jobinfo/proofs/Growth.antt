@@ -1,42 +1,39 @@
--- How a text grows, line by line and word by word.
-use Rattle.std.proofs.Common.{◌≡◌, ℕ, ◌+◌, Bool, true, false, cond, List, [], ◌∷◌, ◌++◌, map, filter, sym, ap, ◌∙◌, arith}
-use Rattle.std.proofs.lemmas.List.FromFn.{map-range_with_len_more}
-use Rattle.std.proofs.lemmas.List.Elements.{filter-append}
-use Rattle.std.proofs.lemmas.List.{append-nil, flat_map_more, map-id, map_push}
-use Rattle.std.proofs.lemmas.Bool.{cond-true, cond-false}
-use Rattle.std.specs.List.{range_with_len, flat_map}
+-- A text to which `try_fold` adds a piece for each item.
+use Rattle.std.proofs.Common.{◌≡◌, ℕ, Option, Some, None, Result, Ok, Err, List, [], ◌∷◌, ◌++◌, map, IfOk, subst, sym, ap, ◌∙◌, append_assoc}
+use Rattle.std.proofs.lemmas.Iterator.{YieldsList, items_from_drains}
+use Rattle.std.proofs.lemmas.List.{append-nil}
+use Rattle.std.specs.Fn.{Called}
+use Rattle.std.specs.Iterator.{TryFoldsItems, TryFoldTurn, YieldsThen}
+use Rattle.std.specs.List.{flat_map, FoldsTo}
+use Rattle.std.specs.Option.{MatchOption}
+use Rattle.std.specs.Result.{IsErr, IsErrAnd, result_from_control_flow}
+use denote.Param.Members.{Mut}
 
-counting_more : (i : ℕ) → range_with_len 0 (i + 1) ≡ range_with_len 0 i ++ i ∷ []
-counting_more i =
-    sym (map-id (range_with_len 0 (i + 1)))
-    ∙ (map-range_with_len_more (λ k. k) 0 i i (omega arith) ∙ ap (λ xs. xs ++ i ∷ []) (map-id (range_with_len 0 i)))
+none_made : {T E : Type 0} (P : T → Type 0) (r : Result T E) → IsErr r → IfOk r P
+none_made P (Ok t) e = absurd cc
+none_made P (Err x) e = tt
 
--- one line more
-pub lines_more : (line : ℕ → List ℕ) (text : List ℕ) (i : ℕ)
-    → (text ++ flat_map line (range_with_len 0 i)) ++ line i ≡ text ++ flat_map line (range_with_len 0 (i + 1))
-lines_more line text i =
-    flat_map_more line text (range_with_len 0 i) i ∙ ap (λ xs. text ++ flat_map line xs) (sym (counting_more i))
+module _ {F A B E : Type 0} (g : Mut F (List ℕ × (A × Unit {0})) (Result (List ℕ) E)) (v : A → B) (piece : B → List ℕ) (f : F)
+    (step : (t : List ℕ) (x : A) (r : Result (List ℕ) E) (q : F) → Called g f (t, (x, tt)) r q → (q ≡ f) × IfOk r (λ u. u ≡ t ++ piece (v x))) where
+  abbrev Turn : F × List ℕ → A → F × List ℕ → Type 0
+  Turn = TryFoldTurn g (λ r c. r ≡ result_from_control_flow c)
 
--- one word more of those that pass the test, or none
-module _ (space : List ℕ → List ℕ) (word : ℕ → List ℕ) (test : ℕ → Bool) (text : List ℕ) (i : ℕ) where
-  kept_more : (last : List ℕ) → cond (test i) (i ∷ []) [] ≡ last
-      → filter test (range_with_len 0 (i + 1)) ≡ filter test (range_with_len 0 i) ++ last
-  kept_more last e =
-      ap (filter test) (counting_more i)
-      ∙ (filter-append test (range_with_len 0 i) (i ∷ []) ∙ ap (λ xs. filter test (range_with_len 0 i) ++ xs) e)
+  turns : (xs : List A) (t a : List ℕ) (q : F) → FoldsTo Turn (f, t) xs (q, a) → a ≡ t ++ flat_map piece (map v xs)
+  turns [] t a q c = sym (ap (λ (p : F × List ℕ). p.1) c) ∙ sym (append-nil t)
+  turns (x ∷ xs) t a q c =
+      let one : (c.0.0 ≡ f) × (c.0.1 ≡ t ++ piece (v x)) = step t x (Ok c.0.1) c.0.0 (subst (λ r. Called g f (t, (x, tt)) r c.0.0) c.1.2 c.1.1) in
+      turns xs (t ++ piece (v x)) a q (subst (λ (p : F × List ℕ). FoldsTo Turn p xs (q, a)) {x = c.0} {y = (f, t ++ piece (v x))} (λ i. (one.0 i, one.1 i)) c.2)
+      ∙ append_assoc t (piece (v x)) (flat_map piece (map v xs))
 
-  pub words_more : test i ≡ true
-      → (text ++ flat_map space (map word (filter test (range_with_len 0 i)))) ++ space (word i)
-      ≡ text ++ flat_map space (map word (filter test (range_with_len 0 (i + 1))))
-  words_more e =
-      flat_map_more space text (map word (filter test (range_with_len 0 i))) (word i)
-      ∙ ap (λ xs. text ++ flat_map space xs)
-      (sym (map_push word (filter test (range_with_len 0 i)) i)
-      ∙ ap (map word) (sym (kept_more (i ∷ []) (cond-true (test i) (i ∷ []) [] e))))
+  module _ {S : Type 0} {steps : S → Option A → S → Type 0} {s : S} {all : List B} (from : YieldsList steps v s all) (text : List ℕ) (u : S) (r : Result (List ℕ) E) where
+    ended : (xs : List A) (o : Option A) (q : F) (a : List ℕ) (Broken : A → Type 0) → ((x : A) → Broken x → IsErr r) → YieldsThen steps s xs o u
+        → FoldsTo Turn (f, text) xs (q, a) → MatchOption o (r ≡ Ok a) Broken → IfOk r (λ t. t ≡ text ++ flat_map piece all)
+    ended xs None q a Broken fails y c e =
+        subst (λ r. IfOk r (λ t. t ≡ text ++ flat_map piece all)) (sym e)
+        (turns xs text a q c ∙ ap (λ ys. text ++ flat_map piece ys) (items_from_drains xs (y.0, y.1, λ _. (u, y.2)) from))
+    ended xs (Some x) q a Broken fails y c e = none_made _ r (fails x e)
 
-  pub words_same : test i ≡ false
-      → text ++ flat_map space (map word (filter test (range_with_len 0 i)))
-      ≡ text ++ flat_map space (map word (filter test (range_with_len 0 (i + 1))))
-  words_same e =
-      ap (λ xs. text ++ flat_map space (map word xs))
-      (sym (kept_more [] (cond-false (test i) (i ∷ []) [] e) ∙ append-nil (filter test (range_with_len 0 i))))
+    pub grown : (R : E → E → Type 0)
+        → TryFoldsItems steps g (λ r c. r ≡ result_from_control_flow c) (λ e r. IsErr r × IsErrAnd r (R e.0)) s f text r u
+        → IfOk r (λ t. t ≡ text ++ flat_map piece all)
+    grown R d = ended d.0 d.1 d.2 d.3 _ (λ x e. e.5.0) d.4 d.5 d.6

@@ -25,11 +25,19 @@ due_word (Some step) = decimal step
 abbrev pub order_line : Content → ℕ → List ℕ
 order_line c order = line (codes "order") (decimal order ∷ label_of c order ∷ due_word (slice_index_or c.dues order None) ∷ [])
 
+-- how many sheets and orders there are
+abbrev pub counts_line : Content → List ℕ
+counts_line c = line (codes "job") (decimal (length c.rows) ∷ decimal (length c.labels) ∷ [])
+
+abbrev pub sheet_lines : Content → List ℕ
+sheet_lines c = flat_map (sheet_line c) (range_with_len 0 (length c.rows))
+
+abbrev pub order_lines : Content → List ℕ
+order_lines c = flat_map (order_line c) (range_with_len 0 (length c.labels))
+
 -- the counts, then a line for each sheet, then one for each order
 abbrev pub job_text : Content → List ℕ
-job_text c =
-    line (codes "job") (decimal (length c.rows) ∷ decimal (length c.labels) ∷ [])
-    ++ (flat_map (sheet_line c) (range_with_len 0 (length c.rows)) ++ flat_map (order_line c) (range_with_len 0 (length c.labels)))
+job_text c = counts_line c ++ (sheet_lines c ++ order_lines c)
 
 abbrev pub answer_text : Result Content JobFault → List ℕ
 answer_text (Ok c) = job_text c

@@ -1,9 +1,9 @@
 // The lines that say what a job is.
 ghost use Rattle.job.specs.Jobs.{content_of};
-ghost use Rattle.jobinfo.specs.Wording.{job_text, labels_of, order_line, sheet_line};
+ghost use Rattle.jobinfo.specs.Wording.{counts_line, job_text, labels_of, order_line, order_lines, sheet_line, sheet_lines};
 ghost use Rattle.lines.specs.Lines.{spaced};
-ghost use Rattle.std.specs.List.{range_with_len, flat_map};
-ghost use Rattle.std.specs.Prelude.{◌≡◌, ◌++◌, length, IfOk};
+ghost use Rattle.std.specs.List.{flat_map};
+ghost use Rattle.std.specs.Prelude.{◌≡◌, ◌++◌, IfOk};
 
 use job::Job;
 use lines::Text;
@@ -13,23 +13,25 @@ use std::alloc::AllocError;
 pub fn describe(text: Text, job: &Job) -> Result<Text, AllocError>
     ensures value { IfOk result (λ t. t ≡ text ++ job_text (content_of job.now)) }
 {
-    let text = text
-        .begin(b"job")?
-        .number(usize::from(job.sheets()))?
-        .number(usize::from(job.orders()))?
-        .end()?;
+    let text = counts_line(text, job)?;
     let text = sheet_lines(text, job)?;
     order_lines(text, job)
 }
 
-fn sheet_lines(text: Text, job: &Job) -> Result<Text, AllocError>
-    ensures value { IfOk result (λ t. t ≡ text ++ flat_map (sheet_line (content_of job.now)) (range_with_len 0 (length (content_of job.now).rows))) }
+// How many sheets and orders there are.
+fn counts_line(text: Text, job: &Job) -> Result<Text, AllocError>
+    ensures value { IfOk result (λ t. t ≡ text ++ counts_line (content_of job.now)) }
 {
-    let mut text = text;
-    for sheet in 0..job.sheets() {
-        text = sheet_line(text, job, sheet)?;
-    }
-    Ok(text)
+    text.begin(b"job")?
+        .number(usize::from(job.sheets()))?
+        .number(usize::from(job.orders()))?
+        .end()
+}
+
+fn sheet_lines(text: Text, job: &Job) -> Result<Text, AllocError>
+    ensures value { IfOk result (λ t. t ≡ text ++ sheet_lines (content_of job.now)) }
+{
+    (0..job.sheets()).try_fold(text, |text, sheet| sheet_line(text, job, sheet))
 }
 
 // A sheet with the labels of the orders that it serves.
@@ -44,23 +46,15 @@ fn label_words(text: Text, job: &Job, sheet: u8) -> Result<Text, AllocError>
     ensures value { IfOk result (λ t. t ≡ text ++ flat_map spaced (labels_of (content_of job.now) sheet)) }
 {
     let row = job.row(sheet);
-    let mut text = text;
-    for order in 0..job.orders() {
-        if row.has(order) {
-            text = text.word(job.label(order))?;
-        }
-    }
-    Ok(text)
+    (0..job.orders())
+        .filter(|order| row.has(*order))
+        .try_fold(text, |text, order| text.word(job.label(order)))
 }
 
 fn order_lines(text: Text, job: &Job) -> Result<Text, AllocError>
-    ensures value { IfOk result (λ t. t ≡ text ++ flat_map (order_line (content_of job.now)) (range_with_len 0 (length (content_of job.now).labels))) }
+    ensures value { IfOk result (λ t. t ≡ text ++ order_lines (content_of job.now)) }
 {
-    let mut text = text;
-    for order in 0..job.orders() {
-        text = order_line(text, job, order)?;
-    }
-    Ok(text)
+    (0..job.orders()).try_fold(text, |text, order| order_line(text, job, order))
 }
 
 // An order with its label and its due step.

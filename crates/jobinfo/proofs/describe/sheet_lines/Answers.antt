@@ -1,11 +1,12 @@
-use Rattle.std.proofs.Common.{◌++◌, ap, ◌∙◌}
+use Rattle.std.proofs.Common.{rules, arith, refl}
+use Rattle.std.proofs.lemmas.Iterator.{YieldsList-from_range}
 use Rattle.job.specs.Jobs.{content_of}
 use Rattle.jobinfo.specs.Wording.{sheet_line}
-use Rattle.jobinfo.proofs.Growth.{lines_more}
+use Rattle.jobinfo.proofs.Growth.{grown}
 use Rattle.jobinfo.proofs.describe.sheet_lines.Goals as goal
 
-pub loop-sheet-preserved : goal.loop-sheet-preserved
-loop-sheet-preserved c =
-    let line = sheet_line (content_of c.args.job.now) in
-    c.in_ok-text.ensures.value
-    ∙ (ap (λ bs. bs ++ line c.loop-sheet.sheet) c.loop-sheet.invariant ∙ lines_more line c.args.text c.loop-sheet.sheet)
+pub returns : goal.returns
+returns c = record {
+  value = grown _ _ (sheet_line (content_of c.args.job.now)) _ (λ t x r q k. search rules)
+      (YieldsList-from_range 0 _ _ refl (omega (arith, c.sheets.ensures.value))) c.args.text _ _ _ c.try_fold.ensures.ran;
+}
