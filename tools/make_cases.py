@@ -102,41 +102,37 @@ def built(sheets, orders, size):
     return jobs.make([row] * sheets, [0] * orders, labels)
 
 
-def answer(data):
+def refusal(data):
+    """What the second reader answers, as the table has it: number and place, or None for a file that is taken."""
     try:
         jobs.read(data)
-        return 0, 0
+        return "None"
     except jobs.Refused as refused:
-        return refused.number, refused.place
+        return "Some((%d, %d))" % (refused.number, refused.place)
+
+
+def row(kind, fields):
+    return ["    %s {" % kind, *("        %s: %s," % field for field in fields), "    },"]
 
 
 def main():
-    most = max(len(patches) for _, _, patches in PATCHED)
     out = [
         "// Cases for the reader, with the answers of a second reader. Written by tools/make_cases.py.",
+        "use crate::built::Built;",
+        "use crate::patched::Patched;",
         "",
         'pub const WORKED: &[u8; %d] = b"%s";' % (len(jobs.WORKED), "".join("\\x%02x" % byte for byte in jobs.WORKED)),
         "",
-        "// The worked job at another length and with some bytes changed. A row has the number of bytes, then offset and byte",
-        "// for each change, then the answer, a number and a place. Number 0 says that the file is taken.",
-        "const NO: u16 = 65535;",
-        "",
-        "pub const PATCHED: [[u16; %d]; %d] = [" % (3 + 2 * most, len(PATCHED)),
+        "pub const PATCHED: [Patched; %d] = [" % len(PATCHED),
     ]
     for name, size, patches in PATCHED:
-        number, place = answer(patched(size, patches))
-        cells = ["%d, %d" % patch for patch in patches] + ["NO, 0"] * (most - len(patches))
-        out.append("    [%d, %s, %d, %d], // %s" % (size, ", ".join(cells), number, place, name))
-    out += [
-        "];",
-        "",
-        "// Files in which every sheet serves every order. A row has the numbers of sheets and orders, the bytes of each label,",
-        "// and the answer, a number and a place.",
-        "pub const BUILT: [[u16; 5]; %d] = [" % len(BUILT),
-    ]
+        changes = ", ".join("(%d, %d)" % patch for patch in patches)
+        answer = refusal(patched(size, patches))
+        out += row("Patched", [("about", '"%s"' % name), ("bytes", size), ("changes", "&[%s]" % changes), ("refusal", answer)])
+    out += ["];", "", "pub const BUILT: [Built; %d] = [" % len(BUILT)]
     for sheets, orders, size in BUILT:
-        number, place = answer(built(sheets, orders, size))
-        out.append("    [%d, %d, %d, %d, %d]," % (sheets, orders, size, number, place))
+        answer = refusal(built(sheets, orders, size))
+        out += row("Built", [("sheets", sheets), ("orders", orders), ("label_bytes", size), ("refusal", answer)])
     out.append("];")
     with open("crates/jobtests/src/cases.rt", "w", encoding="utf-8") as file:
         file.write("\n".join(out) + "\n")
