@@ -11,22 +11,30 @@ mod patched;
 #[cfg(test)]
 mod tests {
     use crate::cases::{BUILT, PATCHED, WORKED};
-    use faults::{Fault, Layer};
+    use faults::{Fault, Layer, Refusal};
     use job::Job;
     use sets::SheetSet;
     use std::test::Fail;
 
-    // The number, the layer and the place with which the reader refuses a file, if it does.
-    fn found(file: Vec<u8>) -> Option<(u8, Layer, usize)> {
+    // Why the reader refuses a file, if it does.
+    fn found(file: Vec<u8>) -> Option<Refusal> {
         let fault = Job::read(file).err()?;
-        Some((fault.number(), fault.layer(), fault.place()))
+        Some(Refusal {
+            number: fault.number(),
+            layer: fault.layer(),
+            place: fault.place(),
+        })
     }
 
-    // A refusal in the layer of its number.
-    fn expected(refusal: Option<(u8, usize)>) -> Option<(u8, Layer, usize)> {
+    // Numbers below 11 are those of the file.
+    fn expected(refusal: Option<(u8, usize)>) -> Option<Refusal> {
         let (number, place) = refusal?;
         let layer = if number < 11 { Layer::File } else { Layer::Job };
-        Some((number, layer, place))
+        Some(Refusal {
+            number,
+            layer,
+            place,
+        })
     }
 
     #[test]
