@@ -1,3 +1,2 @@
-pub mod BestValues
 pub mod Objectives
 pub mod PeakPairs

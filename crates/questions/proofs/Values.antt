@@ -14,8 +14,8 @@ use Rattle.sequences.specs.Values.{extended}
 use Rattle.questions.proofs.Folds.{best_folded, peak_folded, total_folded}
 use Rattle.questions.specs.Answered.{CountsPeaks, NothingCut, ValuesAre, once, valued}
 
--- where numbers mean themselves
-pub itself : {r w : Option ℕ} → valued (λ v. v) r ≡ w → r ≡ w
+-- where values mean themselves
+pub itself : {M : Type 0} {r w : Option M} → valued (λ (v : M). v) r ≡ w → r ≡ w
 itself {r = None} e = e
 itself {r = Some v} e = e
 

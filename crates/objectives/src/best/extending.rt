@@ -1,5 +1,4 @@
 // `Best` as an objective.
-ghost use Rattle.objectives.specs.BestValues.{costed_of};
 ghost use Rattle.objectives.specs.Objectives.{Costed, best_ops};
 ghost use Rattle.std.proofs.Common.{rules};
 
@@ -14,7 +13,7 @@ impl Objective for Best {
 
     ghost Means = { Costed };
 
-    ghost means = { costed_of };
+    ghost means = { λ v. v };
 
     ghost ops = { λ _. best_ops };
 
