@@ -2,9 +2,11 @@
 use Rattle.std.proofs.Common.{◌≡◌, ℕ, suc, ◌+◌, ◌-◌, ◌<◌, List, [], ◌∷◌, ◌++◌, map, Ok, Err, Result, sym, refl, ap, ◌∙◌, ⊎_elim, add-one, arith}
 use Rattle.std.proofs.lemmas.Bool.{cases_Bool, cond-true, cond-false}
 use Rattle.faults.specs.declared.file.FileFault.{FileFault}
+use Rattle.faults.specs.declared.job.JobFault.{JobFault}
 use Rattle.faults.specs.declared.job.JobFault.TheVariants.{File}
 use Rattle.jobfile.specs.Check.{Check, in_turn, verdict}
-use Rattle.jobfile.specs.Checks.{in_file}
+use Rattle.jobfile.specs.Fields.{orders, sheets}
+use Rattle.jobfile.specs.Checks.{checks, file_checks, in_file, order_checks, sheet_checks}
 
 module _ {F : Type 0} where
   pub not_passed : (fault : F) → ◌≡◌ {A = Result (Unit {0}) F} (Err fault) (Ok tt) → ⊥
@@ -70,3 +72,20 @@ in_file_stops (c ∷ cs) fault failed =
     ∙ (let same : ◌≡◌ {A = Result (Unit {0}) FileFault} (Err c.fault) (Err fault) = sym (cond-false c.holds (verdict cs) (Err c.fault) e) ∙ failed in
     let inner : c.fault ≡ fault = cc in ap (λ f. Err (File f)) inner))
     (cases_Bool c.holds)
+
+-- where the header passes, the sheets decide, and then the orders
+module _ (file : List ℕ) (header : Ok tt ≡ verdict (file_checks file)) where
+  abbrev of_sheets : List (Check JobFault)
+  of_sheets = in_turn (sheet_checks file) 0 (sheets file)
+
+  abbrev of_orders : List (Check JobFault)
+  of_orders = in_turn (order_checks file) 0 (orders file)
+
+  after_header : verdict (checks file) ≡ verdict (of_sheets ++ of_orders)
+  after_header = verdict_passes (map in_file (file_checks file)) (of_sheets ++ of_orders) (in_file_passes (file_checks file) (sym header))
+
+  pub sheets_stop : (fault : JobFault) → verdict of_sheets ≡ Err fault → verdict (checks file) ≡ Err fault
+  sheets_stop fault failed = after_header ∙ verdict_stops of_sheets of_orders fault failed
+
+  pub orders_decide : verdict of_sheets ≡ Ok tt → verdict (checks file) ≡ verdict of_orders
+  orders_decide passed = after_header ∙ verdict_passes of_sheets of_orders passed

@@ -4,5 +4,4 @@
 pub mod bytes;
 pub mod checks;
 
-pub use bytes::{ORDERS_AT, OrderRecord, SHEETS_AT, field, label, order_record, row};
-pub use checks::check;
+pub use bytes::{JobFile, ORDERS_AT, OrderRecord, SHEETS_AT};

@@ -1,26 +1,32 @@
 // What the file of a job says. Every accessor answers for every number: past the last sheet or order there is nothing.
-ghost use Rattle.job.specs.Jobs.{content_of};
+ghost use Rattle.job.specs.Jobs.{content_of, file_of};
 ghost use Rattle.sets.specs.Orders.{members};
 ghost use Rattle.sets.specs.RowLists.{rows_of};
 ghost use Rattle.std.specs.Prelude.{◌≡◌, [], length, None, slice_index, slice_index_or};
 
 use super::Job;
-use jobfile::{ORDERS_AT, SHEETS_AT, field, label, order_record, row};
+use jobfile::JobFile;
 use sets::{OrderSet, Rows};
 
 impl Job {
+    fn file(&self) -> JobFile<'_>
+        ensures value { result ≡ file_of self.now }
+    {
+        JobFile::new(&self.file)
+    }
+
     // How many sheets there are.
     pub fn sheets(&self) -> u8
         ensures value { result ≡ length (content_of self.now).rows }
     {
-        field(&self.file, SHEETS_AT) as u8
+        self.file().sheets() as u8
     }
 
     // How many orders there are.
     pub fn orders(&self) -> u16
         ensures value { result ≡ length (content_of self.now).labels }
     {
-        field(&self.file, ORDERS_AT)
+        self.file().orders()
     }
 
     // The orders that a sheet serves.
@@ -28,7 +34,7 @@ impl Job {
         ensures value { members result ≡ slice_index (content_of self.now).rows sheet }
     {
         if sheet < self.sheets() {
-            row(&self.file, u16::from(sheet))
+            self.file().row(u16::from(sheet))
         } else {
             OrderSet::empty()
         }
@@ -52,7 +58,7 @@ impl Job {
         if order >= self.orders() {
             return None;
         }
-        let step = order_record(&self.file, order).due_step;
+        let step = self.file().order_record(order).due_step;
         if step == 0 { None } else { Some(step as u8) }
     }
 
@@ -61,7 +67,7 @@ impl Job {
         ensures value { result.now ≡ slice_index_or (content_of self.now).labels order [] }
     {
         if order < self.orders() {
-            label(&self.file, order)
+            self.file().label(order)
         } else {
             &[]
         }

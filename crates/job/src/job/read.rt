@@ -9,7 +9,7 @@ ghost use Rattle.std.specs.Prelude.{◌≡◌, is_ok, IfOk, IfErr, Decides};
 
 use super::Job;
 use faults::JobFault;
-use jobfile::check;
+use jobfile::JobFile;
 
 impl Job {
     // Takes the file; a refused file is dropped.
@@ -19,7 +19,7 @@ impl Job {
         ensures accepts { Decides (is_ok result) (WellFormed file.items) }
         ensures refuses { IfErr result (λ fault. FirstFault (checks file.items) fault) }
     {
-        check(&file)?;
+        JobFile::new(&file).check()?;
         Ok(Job { file })
     }
 }

@@ -1,11 +1,6 @@
-use Rattle.std.proofs.Common.{sym, ap, ◌∙◌}
-use Rattle.jobfile.specs.Fields.{orders}
 use Rattle.job.specs.Jobs.{file_of}
 use Rattle.job.proofs.Accepted.{labels_length}
 use Rattle.job.proofs.job.Job.orders.Goals as goal
 
 pub returns : goal.returns
-returns c =
-    record {
-      value = c.field.ensures.value ∙ (ap orders c.deref.ensures.value ∙ sym (labels_length (file_of c.args.self.now)));
-    }
+returns c = record { value = cc (labels_length (file_of c.args.self.now)) }
