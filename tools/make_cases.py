@@ -103,12 +103,13 @@ def built(sheets, orders, size):
 
 
 def refusal(data):
-    """What the second reader answers, as the table has it: number and place, or None for a file that is taken."""
+    """What the second reader answers, as the table has it: layer, number and place, or None for a file that is taken."""
     try:
         jobs.read(data)
         return "None"
     except jobs.Refused as refused:
-        return "Some((%d, %d))" % (refused.number, refused.place)
+        layer = "File" if refused.number < 11 else "Job"
+        return "Some((Layer::%s, %d, %d))" % (layer, refused.number, refused.place)
 
 
 def row(kind, fields):
@@ -120,6 +121,7 @@ def main():
         "// Cases for the reader, with the answers of a second reader. Written by tools/make_cases.py.",
         "use crate::built::Built;",
         "use crate::patched::Patched;",
+        "use faults::Layer;",
         "",
         'pub const WORKED: &[u8; %d] = b"%s";' % (len(jobs.WORKED), "".join("\\x%02x" % byte for byte in jobs.WORKED)),
         "",

@@ -73,7 +73,7 @@ mod tests {
         check(measure(job, list).is_none(), at)
     }
 
-    fn tried(heap: Global, cases: &Cases) -> Result<(), Fail> {
+    fn all_lists(heap: Global, cases: &Cases) -> Result<(), Fail> {
         let job = read(heap, cases)?;
         cases.sequences.iter().enumerate().try_for_each(|(at, case)| {
             measured(at, &job, case)?;
@@ -92,36 +92,36 @@ mod tests {
 
     #[test]
     fn job_a(rt: HostRuntime) -> Result<(), Fail> {
-        tried(rt.alloc(), &A)
+        all_lists(rt.alloc(), &A)
     }
 
     #[test]
     fn job_b(rt: HostRuntime) -> Result<(), Fail> {
-        tried(rt.alloc(), &B)
+        all_lists(rt.alloc(), &B)
     }
 
     #[test]
     fn one_sheet(rt: HostRuntime) -> Result<(), Fail> {
-        tried(rt.alloc(), &ONE)
+        all_lists(rt.alloc(), &ONE)
     }
 
     #[test]
     fn the_same_order(rt: HostRuntime) -> Result<(), Fail> {
-        tried(rt.alloc(), &SAME)
+        all_lists(rt.alloc(), &SAME)
     }
 
     #[test]
     fn five_sheets(rt: HostRuntime) -> Result<(), Fail> {
-        tried(rt.alloc(), &FIVE)
+        all_lists(rt.alloc(), &FIVE)
     }
 
     #[test]
     fn large_job(rt: HostRuntime) -> Result<(), Fail> {
-        tried(rt.alloc(), &LARGE)
+        all_lists(rt.alloc(), &LARGE)
     }
 
     #[test]
     fn full_job(rt: HostRuntime) -> Result<(), Fail> {
-        tried(rt.alloc(), &FULL)
+        all_lists(rt.alloc(), &FULL)
     }
 }

@@ -18,7 +18,7 @@ pub const ROWS_AT: u32 = 6;
 
 pub const RECORDS_AT: u32 = 8;
 
-// A file, before it is known to be a job file. To a contract it is the list of its bytes.
+// What may be a job file. To a contract it is the list of its bytes.
 #[derive(Debug, Drop)]
 pub struct JobFile<'a> {
     pub(crate) bytes: &'a [u8],

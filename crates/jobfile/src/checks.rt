@@ -1,6 +1,6 @@
 // The checks of a job file, in the order in which they are made.
 ghost use Rattle.jobfile.specs.Check.{Check, in_turn, verdict};
-ghost use Rattle.jobfile.specs.Tests.{inside, label_fits, printable, served, taken};
+ghost use Rattle.jobfile.specs.Tests.{between, inside, label_fits, printable, served, taken};
 ghost use Rattle.jobfile.specs.Checks.{checks, file_checks, order_checks, sheet_checks};
 ghost use Rattle.faults.specs.declared.job.JobFault.{JobFault};
 ghost use Rattle.std.specs.List.{list_all};
@@ -53,11 +53,11 @@ impl JobFile<'_> {
             return Err(FileFault::Length { bytes });
         }
         let sheets = self.sheets();
-        if !(1..=MOST_SHEETS).contains(&sheets) {
+        if !is_count(sheets, MOST_SHEETS) {
             return Err(FileFault::Sheets { sheets });
         }
         let orders = self.orders();
-        if !(1..=MOST_ORDERS).contains(&orders) {
+        if !is_count(orders, MOST_ORDERS) {
             return Err(FileFault::Orders { orders });
         }
         if !self.is_inside(self.field(ROWS_AT), ROW_BYTES * u32::from(sheets)) {
@@ -124,7 +124,7 @@ impl JobFile<'_> {
     {
         let record = self.order_record(order);
         let bytes = record.label_bytes;
-        (1..=MOST_LABEL_BYTES).contains(&bytes) && self.is_inside(record.label_at, u32::from(bytes))
+        is_count(bytes, MOST_LABEL_BYTES) && self.is_inside(record.label_at, u32::from(bytes))
     }
 
     // Whether an earlier order has the same label.
@@ -133,6 +133,13 @@ impl JobFile<'_> {
     {
         (0..order).any(|earlier| self.label(earlier) == self.label(order))
     }
+}
+
+// Whether there can be so many: at least one, and at most as many as given.
+fn is_count(count: u16, most: u16) -> bool
+    ensures value { result ≡ between 1 most count }
+{
+    (1..=most).contains(&count)
 }
 
 // Each sheet or order in rising number, until one fails.

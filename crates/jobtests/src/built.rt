@@ -1,14 +1,15 @@
 // A file without gaps in which every sheet serves every order.
 ghost use Rattle.std.specs.Prelude.{◌^◌, ◌<◌};
 
+use faults::Layer;
 use std::alloc::{AllocError, Global};
 
 pub struct Built {
     pub sheets: u8,
     pub orders: u8,
     pub label_bytes: u8,
-    // the number and the place with which the file is refused, if it is
-    pub refusal: Option<(u8, usize)>,
+    // the layer, the number and the place with which the file is refused, if it is
+    pub refusal: Option<(Layer, u8, usize)>,
 }
 
 impl Built {

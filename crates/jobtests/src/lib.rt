@@ -11,37 +11,22 @@ mod patched;
 #[cfg(test)]
 mod tests {
     use crate::cases::{BUILT, PATCHED, WORKED};
-    use faults::{Fault, Layer, Refusal};
+    use faults::{Fault, Layer};
     use job::Job;
     use sets::SheetSet;
     use std::test::Fail;
 
-    // Why the reader refuses a file, if it does.
-    fn found(file: Vec<u8>) -> Option<Refusal> {
+    // The layer, the number and the place with which the reader refuses a file, if it does.
+    fn found(file: Vec<u8>) -> Option<(Layer, u8, usize)> {
         let fault = Job::read(file).err()?;
-        Some(Refusal {
-            number: fault.number(),
-            layer: fault.layer(),
-            place: fault.place(),
-        })
-    }
-
-    // Numbers below 11 are those of the file.
-    fn expected(refusal: Option<(u8, usize)>) -> Option<Refusal> {
-        let (number, place) = refusal?;
-        let layer = if number < 11 { Layer::File } else { Layer::Job };
-        Some(Refusal {
-            number,
-            layer,
-            place,
-        })
+        Some((fault.layer(), fault.number(), fault.place()))
     }
 
     #[test]
     fn patched_files(rt: HostRuntime) -> Result<(), Fail> {
         for case in &PATCHED {
             let file = case.file(rt.alloc())?;
-            assert_eq!(rt; found(file), expected(case.refusal), "{}", case.about);
+            assert_eq!(rt; found(file), case.refusal, "{}", case.about);
         }
         Ok(())
     }
@@ -52,10 +37,11 @@ mod tests {
             let file = case.file(rt.alloc())?;
             assert_eq!(rt;
                 found(file),
-                expected(case.refusal),
-                "{} sheets, {} orders",
+                case.refusal,
+                "{} sheets, {} orders, labels of {} bytes",
                 case.sheets,
-                case.orders
+                case.orders,
+                case.label_bytes
             );
         }
         Ok(())

@@ -1,5 +1,6 @@
 // The worked job at another length and with some bytes changed.
 use crate::cases::WORKED;
+use faults::Layer;
 use std::alloc::{AllocError, Global};
 
 pub struct Patched {
@@ -7,8 +8,8 @@ pub struct Patched {
     pub bytes: usize,
     // offset and byte; what lies past the end is not changed
     pub changes: &'static [(usize, u8)],
-    // the number and the place with which the file is refused, if it is
-    pub refusal: Option<(u8, usize)>,
+    // the layer, the number and the place with which the file is refused, if it is
+    pub refusal: Option<(Layer, u8, usize)>,
 }
 
 impl Patched {

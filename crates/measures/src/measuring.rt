@@ -37,7 +37,7 @@ pub fn measure(job: &Job, list: &[u8]) -> Option<Measures>
     })
 }
 
-// A sequence of a job's sheets.
+// A sequence of a job's sheets, with the job's rows.
 #[derive(Drop)]
 struct Sequence<'a> {
     job: &'a Job,

@@ -13,7 +13,7 @@ pub trait Cost: Drop {
     fn raise(&self, cost: u32, figure: u16) -> u32
         ensures value { result ≡ raised self.now cost figure };
 
-    // of two costs raised by one figure, the one that was lower is no higher
+    // two costs that one figure raises keep their order
     ghost rises: { (c : Self) (v w f : ℕ) → v ≤ w → f ≤ most_figure → raised c v f ≤ raised c w f };
 }
 

@@ -48,10 +48,10 @@ impl Rule for Open {
 
     // The orders that are begun once the next sheet is cut, and were not finished before.
     fn ask(&self, done: SheetSet, next: u8) -> Answer {
-        let figure = unfinished(&self.rows, done, next).map(|left| self
-            .rows
-            .reach(done.with(next))
-            .common(left));
+        let figure = unfinished(&self.rows, done, next).map(|left| {
+            let begun = self.rows.reach(done.with(next));
+            begun.common(left)
+        });
         Answer { figure }
     }
 }

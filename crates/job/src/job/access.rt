@@ -40,7 +40,7 @@ impl Job {
         }
     }
 
-    // The rows of all sheets.
+    // The rows of all sheets. A job has at most 16, so there is room for each.
     pub fn rows(&self) -> Rows
         ensures value { rows_of result ≡ (content_of self.now).rows }
     {

@@ -18,9 +18,10 @@ impl CostCount {
         self.count
     }
 
-    // Whether both are the same value; so they are where they mean the same.
+    // Whether both are the same value; so they are where cost and count are the same.
     pub fn same(self, other: CostCount) -> bool
         ensures value { Decides result (self ≡ other) }
+        ensures meaning { Decides result ((self.cost ≡ other.cost) × (self.count ≡ other.count)) }
     {
         self == other
     }

@@ -29,7 +29,7 @@ impl Rule for Due {
 }
 
 impl Due {
-    // The orders that count as late in a step, from the sheets done before it.
+    // The orders that count as late after those sheets; none where there are more than any job has.
     fn late(&self, done: SheetSet) -> OrderSet
         ensures value { members result ≡ slice_index (map members self.now.overdue) (count_ones done.bits) }
     {
