@@ -13,7 +13,7 @@ mod objective_ends;
 mod tests {
     use crate::cases::{A, B, Case, Cases, FIVE, FULL, LARGE, ONE, SAME};
     use job::Job;
-    use measures::measure;
+    use measures::{Measures, measure};
     use questions::{StepCosts, step_costs};
     use std::alloc::Global;
     use std::test::Fail;
@@ -22,42 +22,36 @@ mod tests {
         Job::read(cases.file.to_vec(heap)?).map_err(|_| Fail::new("the job is refused"))
     }
 
-    // The test fails where this does not hold, and names the case.
-    fn check(holds: bool, at: usize) -> Result<(), Fail> {
-        if holds {
-            Ok(())
-        } else {
-            Err(Fail::new(format_args!("case {at}")))
-        }
-    }
-
     // A sequence costs what the table says.
-    fn measured(at: usize, job: &Job, case: &Case) -> Result<(), Fail> {
-        let Some(found) = measure(job, case.list) else {
-            return Err(Fail::new(format_args!("case {at} is not taken for a sequence")));
+    fn is_measured(job: &Job, case: &Case) -> bool {
+        let expected = Measures {
+            peak: case.peak,
+            spread: case.spread,
+            lateness: case.lateness,
         };
-        check(found.peak == case.peak, at)?;
-        check(found.spread == case.spread, at)?;
-        check(found.lateness == case.lateness, at)
+        measure(job, case.list) == Some(expected)
     }
 
-    // Found step by step, it costs the same. It counts once, and where a place is missing not at all.
-    fn stepped(at: usize, job: &Job, case: &Case) -> Result<(), Fail> {
+    // Found step by step, it costs the same, and counts once.
+    fn is_stepped(job: &Job, case: &Case) -> bool {
         let found = step_costs(job, case.list, case.peak);
-        check(found.peak == Some(u32::from(case.peak)), at)?;
-        check(found.spread == Some(case.spread), at)?;
-        check(found.lateness == Some(case.lateness), at)?;
-        check(found.count == Some(1), at)?;
-        let Some(best) = found.best else {
-            return Err(Fail::new(format_args!("case {at} is forbidden")));
-        };
-        check(best.cost() == case.spread && best.count() == 1, at)?;
+        found.peak == Some(u32::from(case.peak))
+            && found.spread == Some(case.spread)
+            && found.lateness == Some(case.lateness)
+            && found
+                .best
+                .is_some_and(|best| best.cost() == case.spread && best.count() == 1)
+            && found.count == Some(1)
+    }
+
+    // Where a place is missing it counts not at all.
+    fn is_too_high(job: &Job, case: &Case) -> bool {
         let fewer = step_costs(job, case.list, case.peak.saturating_sub(1));
-        check(fewer.count == None, at)
+        fewer.count == None
     }
 
     // No question has a value for a list with a step that no rule permits.
-    fn unvalued(at: usize, job: &Job, list: &[u8]) -> Result<(), Fail> {
+    fn is_unvalued(job: &Job, list: &[u8]) -> bool {
         let nothing = StepCosts {
             peak: None,
             spread: None,
@@ -65,29 +59,38 @@ mod tests {
             best: None,
             count: None,
         };
-        check(step_costs(job, list, 65535) == nothing, at)
+        step_costs(job, list, 65535) == nothing
     }
 
     // A list that is no sequence has no costs.
-    fn unmeasured(at: usize, job: &Job, list: &[u8]) -> Result<(), Fail> {
-        check(measure(job, list).is_none(), at)
+    fn is_unmeasured(job: &Job, list: &[u8]) -> bool {
+        measure(job, list).is_none()
+    }
+
+    // The test fails where this does not hold, and names the case.
+    fn check(kind: &str, at: usize, holds: bool) -> Result<(), Fail> {
+        if holds {
+            Ok(())
+        } else {
+            Err(Fail::new(format_args!("{kind} {at}")))
+        }
     }
 
     fn all_lists(heap: Global, cases: &Cases) -> Result<(), Fail> {
         let job = read(heap, cases)?;
         cases.sequences.iter().enumerate().try_for_each(|(at, case)| {
-            measured(at, &job, case)?;
-            stepped(at, &job, case)
+            let holds = is_measured(&job, case)
+                && is_stepped(&job, case)
+                && is_too_high(&job, case);
+            check("sequence", at, holds)
         })?;
         cases.forbidden.iter().enumerate().try_for_each(|(at, &list)| {
-            unvalued(at, &job, list)?;
-            unmeasured(at, &job, list)
+            let holds = is_unvalued(&job, list) && is_unmeasured(&job, list);
+            check("forbidden list", at, holds)
         })?;
-        cases
-            .short
-            .iter()
-            .enumerate()
-            .try_for_each(|(at, &list)| unmeasured(at, &job, list))
+        cases.short.iter().enumerate().try_for_each(|(at, &list)| {
+            check("short list", at, is_unmeasured(&job, list))
+        })
     }
 
     #[test]
