@@ -2,6 +2,6 @@
 #![tactic(auto)]
 
 pub mod bytes;
-pub mod checks;
+mod checks;
 
 pub use bytes::{JobFile, ORDERS_AT, OrderRecord, SHEETS_AT};

@@ -3,7 +3,7 @@ ghost use Rattle.sets.specs.Bits.{has, with, AllBelow};
 ghost use Rattle.std.specs.Prelude.{◌≡◌, ℕ, ◌^◌, ◌<◌, ◌||◌, ◌==◌, nat_lt, Decides};
 
 // A number below this can be in a set.
-const WIDTH: u16 = 64;
+pub(crate) const WIDTH: u16 = 64;
 
 pub(crate) fn has(bits: u64, p: u16) -> bool
     ensures value { result ≡ has bits p }

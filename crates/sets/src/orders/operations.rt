@@ -9,7 +9,7 @@ use super::OrderSet;
 use crate::word;
 
 // How many orders a set has room for.
-const ROOM: u16 = 64;
+const ROOM: u16 = word::WIDTH;
 
 impl OrderSet {
     pub fn empty() -> OrderSet
