@@ -1,9 +1,9 @@
 // A set as one word of 64 bits: what sets of sheets and sets of orders have in common.
-ghost use Rattle.sets.specs.Bits.{has, with, AllBelow};
-ghost use Rattle.std.specs.Prelude.{◌≡◌, ℕ, ◌^◌, ◌<◌, ◌||◌, ◌==◌, nat_lt, Decides};
+ghost use Rattle.sets.specs.Bits.{has, with_in, AllBelow};
+ghost use Rattle.std.specs.Prelude.{◌≡◌, ℕ, ◌^◌, ◌<◌, ◌&&◌, ◌||◌, ◌==◌, nat_lt, Decides};
 
 // A number below this can be in a set.
-pub(crate) const WIDTH: u16 = 64;
+const WIDTH: u16 = 64;
 
 pub(crate) fn has(bits: u64, p: u16) -> bool
     ensures value { result ≡ has bits p }
@@ -11,14 +11,13 @@ pub(crate) fn has(bits: u64, p: u16) -> bool
     p < WIDTH && (bits >> p) % 2 == 1
 }
 
-// The set with p in it.
+// The set with p in it. A number for which a word has no room is in no set.
 pub(crate) fn with(bits: u64, p: u16) -> u64
-    requires { p < 64 }
-    ensures value { result ≡ with bits p }
-    ensures members { (q : ℕ) → has result q ≡ (has bits q || q == p) }
+    ensures value { result ≡ with_in 64 bits p }
+    ensures members { (q : ℕ) → has result q ≡ (has bits q || (q == p && nat_lt p 64)) }
     ensures fits { (room : ℕ) → bits < 2 ^ room → p < room → result < 2 ^ room }
 {
-    if has(bits, p) {
+    if p >= WIDTH || has(bits, p) {
         return bits;
     }
     bits + (1 << p)

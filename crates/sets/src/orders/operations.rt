@@ -8,9 +8,6 @@ ghost use Rattle.std.specs.List.{range_with_len};
 use super::OrderSet;
 use crate::word;
 
-// How many orders a set has room for.
-const ROOM: u16 = word::WIDTH;
-
 impl OrderSet {
     pub fn empty() -> OrderSet
         ensures value { members result ≡ 0 }
@@ -41,9 +38,6 @@ impl OrderSet {
         ensures value { members result ≡ with_in room (members self) order }
         ensures members { (j : ℕ) → has (members result) j ≡ (has (members self) j || (j == order && nat_lt order room)) }
     {
-        if order >= ROOM {
-            return self;
-        }
         OrderSet {
             bits: word::with(self.bits, order),
         }
