@@ -1,2 +1,3 @@
+pub mod BestValues
 pub mod PeakPairs
 pub mod Preorder

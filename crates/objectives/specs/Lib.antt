@@ -1,2 +1,3 @@
+pub mod BestValues
 pub mod Objectives
 pub mod PeakPairs

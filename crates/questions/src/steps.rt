@@ -1,5 +1,6 @@
 // What a list of sheets costs a job, step by step: each question asked of one list.
 ghost use Rattle.job.specs.Jobs.{content_of};
+ghost use Rattle.objectives.specs.BestValues.{costed_of};
 ghost use Rattle.objectives.specs.Objectives.{best_ops, count_ops, peak_ops, total_ops};
 ghost use Rattle.questions.specs.Answered.{valued};
 ghost use Rattle.questions.specs.StepCosts.{CostsOf};
@@ -27,7 +28,7 @@ pub fn step_costs(job: &Job, list: &[u8], places: u16) -> StepCosts
     ensures peak { result.peak ≡ value peak_ops (open_rule (content_of job.now).rows) list.now }
     ensures spread { result.spread ≡ value total_ops (open_rule (content_of job.now).rows) list.now }
     ensures lateness { result.lateness ≡ value total_ops (due_rule (content_of job.now).rows (content_of job.now).dues) list.now }
-    ensures best { result.best ≡ value best_ops (open_rule (content_of job.now).rows) list.now }
+    ensures best { valued costed_of result.best ≡ value best_ops (open_rule (content_of job.now).rows) list.now }
     ensures count { result.count ≡ value count_ops (limit places (open_rule (content_of job.now).rows)) list.now }
     ensures sequence { SequenceOf (content_of job.now) list.now → CostsOf (content_of job.now) list.now places result }
 {

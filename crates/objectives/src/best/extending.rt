@@ -1,4 +1,5 @@
 // `Best` as an objective.
+ghost use Rattle.objectives.specs.BestValues.{costed_of};
 ghost use Rattle.objectives.specs.Objectives.{Costed, best_ops};
 ghost use Rattle.std.proofs.Common.{rules};
 
@@ -13,7 +14,7 @@ impl Objective for Best {
 
     ghost Means = { Costed };
 
-    ghost means = { λ v. v };
+    ghost means = { costed_of };
 
     ghost ops = { λ _. best_ops };
 

@@ -10,7 +10,7 @@ returns c =
     let peaks = itself (rw c.over_open.ensures.rule at c.value_of.ensures.value) in
     let spreads = itself (rw c.over_open-2.ensures.rule at c.value_of-2.ensures.value) in
     let lates = itself (rw c.over_due.ensures.rule at c.value_of-3.ensures.value) in
-    let bests = itself (rw c.over_open-3.ensures.rule at c.value_of-4.ensures.value) in
+    let bests = rw c.over_open-3.ensures.rule at c.value_of-4.ensures.value in
     let counts = itself (rw c.over_open_within.ensures.rule at c.value_of-5.ensures.value) in
     record {
       peak = peaks;
