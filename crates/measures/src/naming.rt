@@ -26,5 +26,5 @@ fn each_once(sheets: u8, list: &[u8]) -> bool
 fn times(list: &[u8], sheet: u8) -> usize
     ensures value { result ≡ times list.now sheet }
 {
-    list.iter().filter(|&&named| named == sheet).count()
+    list.iter().map(|&named| usize::from(named == sheet)).sum()
 }
