@@ -2,6 +2,6 @@
 #![tactic(auto)]
 
 pub mod bytes;
-mod checks;
+pub mod checks;
 
 pub use bytes::{JobFile, ORDERS_AT, OrderRecord, SHEETS_AT};

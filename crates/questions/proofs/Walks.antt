@@ -1,5 +1,5 @@
 -- The value of a sequence, one step after another.
-use Rattle.std.proofs.Common.{◌≡◌, ℕ, ◌+◌, ◌<◌, ltb, List, length, get_or, drop, Some, None, fold, Option, refl, arith}
+use Rattle.std.proofs.Common.{◌≡◌, ℕ, ◌+◌, ◌<◌, ltb, List, length, get_or, drop, Some, None, fold, Option, sym, refl, ◌∙◌, arith}
 use Rattle.sets.specs.Bits.{with, with_in}
 use Rattle.std.proofs.lemmas.List.{at_drop_more}
 use Rattle.std.proofs.lemmas.Bool.{cond-true, lt-ltb}
@@ -25,8 +25,7 @@ module _ {M : Type 0} (o : Ops M) where
     known : (n S p f : ℕ) → Keeps n rule → rule S p ≡ Some f → p < 32
     known n S p f keeps e = grind (arith, keeps.no_sheet S p, keeps.few_sheets)
 
-    -- the value is v, extended by the figures from place i on
-    module _ (v : M) (S : ℕ) (s : List ℕ) (i : ℕ) (so_far : value o rule s ≡ walked o v (figures_from rule S (drop i s))) (more : i < length s) where
+    module _ (v : M) (S : ℕ) (s : List ℕ) (i : ℕ) (more : i < length s) where
       abbrev p : ℕ
       p = get_or s i 0
 
@@ -36,11 +35,21 @@ module _ {M : Type 0} (o : Ops M) where
       next : walked o v (figures_from rule S (drop i s)) ≡ walked o v (follow (rule S p) rest)
       next = at_drop_more (λ left. walked o v (figures_from rule S left)) s i 0 more
 
-      pub walk_stops : None ≡ rule S p → value o rule s ≡ None
-      walk_stops e = rw (so_far, next, ← e)
+      pub walk_stops : rule S p ≡ None → walked o v (figures_from rule S (drop i s)) ≡ None
+      walk_stops e = rw (next, e)
 
       pub walk_on : (n : ℕ) → Keeps n rule → (f : ℕ) (w : M) (T : ℕ)
           → rule S p ≡ Some f → w ≡ o.extend v f → T ≡ with_in 32 S p
-          → value o rule s ≡ walked o w (figures_from rule T (drop (i + 1) s))
+          → walked o v (figures_from rule S (drop i s)) ≡ walked o w (figures_from rule T (drop (i + 1) s))
       walk_on n keeps f w T e value_is done_is =
           cc (next, walked_on v f rest, cond-true (ltb p 32) (with S p) S (lt-ltb p 32 (known n S p f keeps e)))
+
+      -- the value is v, extended by the figures from place i on
+      module _ (so_far : value o rule s ≡ walked o v (figures_from rule S (drop i s))) where
+        pub value_stops : None ≡ rule S p → value o rule s ≡ None
+        value_stops e = so_far ∙ walk_stops (sym e)
+
+        pub value_on : (n : ℕ) → Keeps n rule → (f : ℕ) (w : M) (T : ℕ)
+            → rule S p ≡ Some f → w ≡ o.extend v f → T ≡ with_in 32 S p
+            → value o rule s ≡ walked o w (figures_from rule T (drop (i + 1) s))
+        value_on n keeps f w T e value_is done_is = so_far ∙ walk_on n keeps f w T e value_is done_is

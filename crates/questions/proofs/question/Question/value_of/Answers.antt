@@ -1,6 +1,6 @@
 use Rattle.std.proofs.lemmas.List.{at_drop_all}
 use Rattle.sequences.specs.Steps.{figures_from}
-use Rattle.questions.proofs.Walks.{walk_on, walk_starts, walk_stops, walked}
+use Rattle.questions.proofs.Walks.{value_on, value_stops, walk_starts, walked}
 use Rattle.questions.proofs.question.Question.value_of.Goals as goal
 
 pub loop-sheet-init : goal.loop-sheet-init
@@ -9,13 +9,13 @@ loop-sheet-init g c = walk_starts (g.O.Objective.ops c.args.self.now.objective) 
 pub returns-in_err-figure : goal.returns-in_err-figure
 returns-in_err-figure g c =
     let question = c.args.self.now in
-    let stops = walk_stops (g.O.Objective.ops question.objective) (g.R.Rule.asks question.rule) _ _ _ _ c.loop-sheet.invariant c.loop-sheet-test.true (cc c.in_err-figure.was) in
+    let stops = value_stops (g.O.Objective.ops question.objective) (g.R.Rule.asks question.rule) _ _ _ _ c.loop-sheet-test.true c.loop-sheet.invariant (cc c.in_err-figure.was) in
     record { value = cc }
 
 pub loop-sheet-preserved : goal.loop-sheet-preserved
 loop-sheet-preserved g c =
     let question = c.args.self.now in
-    walk_on (g.O.Objective.ops question.objective) (g.R.Rule.asks question.rule) _ _ _ _ c.loop-sheet.invariant c.loop-sheet-test.true _
+    value_on (g.O.Objective.ops question.objective) (g.R.Rule.asks question.rule) _ _ _ _ c.loop-sheet-test.true c.loop-sheet.invariant _
     (g.met.R.Rule.keeps question.rule) c.in_ok-figure.figure _ _ (cc c.in_ok-figure.was) c.extend-value.ensures.value c.with-done.ensures.value
 
 pub returns : goal.returns
