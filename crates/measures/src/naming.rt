@@ -22,7 +22,7 @@ fn each_once(sheets: u8, list: &[u8]) -> bool
     (0..sheets).all(|sheet| times(list, sheet) == 1)
 }
 
-// How often the list names a sheet.
+// How often the list names a sheet. A sum goes over the list in one loop; `filter` and `count` take half as long again.
 fn times(list: &[u8], sheet: u8) -> usize
     ensures value { result ≡ times list.now sheet }
 {
